@@ -1,0 +1,148 @@
+// A date from the decoded characters of a string where it stands. Ten characters are collected at
+// most; then the form, and then the calendar, decide.
+ghost use mathlib.Core.Path.{_≡_};
+ghost use mathlib.Core.Bool.{true};
+ghost use Prim.Native.Nat.{_+_, _<_};
+ghost use lib.ListN.{length};
+ghost use Rattle.json_chars.specs.Chars.{charsAt};
+ghost use Rattle.json_date.specs.Date.{isLeap, monthDays, isDay, digitsAt, twoAt, hasForm, dateOf};
+use json_bytes::byte_at;
+use json_bytes::is_within;
+use json_chars::Step;
+use json_chars::step_at;
+
+// A day of the calendar, or a string that is none.
+pub enum Date {
+    Day { year: u32, month: u32, day: u32 },
+    NoDate,
+}
+
+fn is_leap(year: u32) -> bool
+    ensures { λ r. ⌜ r ≡ isLeap year ⌝ }
+{
+    if year % 400 == 0 {
+        return true;
+    }
+    if year % 4 == 0 {
+        return year % 100 != 0;
+    }
+    false
+}
+
+fn month_days(year: u32, month: u32) -> u32
+    ensures { λ r. ⌜ r ≡ monthDays year month ⌝ }
+{
+    if month == 2 {
+        if is_leap(year) {
+            return 29;
+        }
+        return 28;
+    }
+    if month == 4 {
+        return 30;
+    }
+    if month == 6 {
+        return 30;
+    }
+    if month == 9 {
+        return 30;
+    }
+    if month == 11 {
+        return 30;
+    }
+    31
+}
+
+fn is_day(year: u32, month: u32, day: u32) -> bool
+    ensures { λ r. ⌜ r ≡ isDay year month day ⌝ }
+{
+    if is_within(1, 9999, year) {
+        if is_within(1, 12, month) {
+            return is_within(1, month_days(year, month), day);
+        }
+    }
+    false
+}
+
+// Whether two digits stand at a place.
+fn digits_at(c: &[u32], i: usize) -> bool
+    requires { ⌜ i + 1 < length (now c) ⌝ }
+    ensures { λ r. ⌜ r ≡ digitsAt (now (c .entry)) i ⌝ }
+{
+    if is_within(48, 57, c[i]) {
+        return is_within(48, 57, c[i + 1]);
+    }
+    false
+}
+
+// The number of the two digits at a place.
+fn two_at(c: &[u32], i: usize) -> u32
+    requires { ⌜ (i + 1 < length (now c)) × (digitsAt (now c) i ≡ true) ⌝ }
+    ensures { λ r. ⌜ (r ≡ twoAt (now (c .entry)) i) × (r < 100) ⌝ }
+{
+    (c[i] - 48) * 10 + (c[i + 1] - 48)
+}
+
+// Whether characters have the form of a date.
+fn has_form(c: &[u32]) -> bool
+    ensures { λ r. ⌜ r ≡ hasForm (now (c .entry)) ⌝ }
+{
+    if c.len() != 10 {
+        return false;
+    }
+    if c[4] != 45 {
+        return false;
+    }
+    if c[7] != 45 {
+        return false;
+    }
+    if digits_at(c, 0) {
+        if digits_at(c, 2) {
+            if digits_at(c, 5) {
+                return digits_at(c, 8);
+            }
+        }
+    }
+    false
+}
+
+// The date that characters are.
+fn date_of(c: &[u32]) -> Date
+    ensures { λ r. ⌜ r ≡ dateOf (now (c .entry)) ⌝ }
+{
+    if has_form(c) {
+        let year = two_at(c, 0) * 100 + two_at(c, 2);
+        let month = two_at(c, 5);
+        let day = two_at(c, 8);
+        if is_day(year, month, day) {
+            return Date::Day { year, month, day };
+        }
+    }
+    Date::NoDate
+}
+
+// The date of the string whose opening quote stands at a place.
+pub fn date_at(s: &[u8], at: usize) -> Date
+    ensures { λ r. ⌜ r ≡ dateOf (charsAt (now (s .entry)) at) ⌝ }
+{
+    if byte_at(s, at) != 34 {
+        return Date::NoDate;
+    }
+    let mut c = [0u32; 10];
+    let mut n = 0;
+    let mut i = at + 1;
+    loop {
+        match step_at(s, i) {
+            Step::Char { code, next } => {
+                if 10 <= n {
+                    return Date::NoDate;
+                }
+                c[n] = code;
+                n += 1;
+                i = next;
+            }
+            Step::Close => return date_of(&c[..n]),
+            Step::Bad { kind: _, place: _ } => return date_of(&c[..n]),
+        }
+    }
+}

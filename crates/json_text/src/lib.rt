@@ -1,0 +1,173 @@
+// A string read whole, with the first character that breaks a rule of its type, in one pass.
+ghost use mathlib.Core.Path.{_≡_};
+ghost use mathlib.Core.Bool.{_||_};
+ghost use Rattle.json_text.specs.Text.{barred, isWhite, wrongSpace, outsideID, ruleOf, wrongHere, firstOf, closesAt, textRead};
+use json_bytes::Reading;
+use json_bytes::byte_at;
+use json_bytes::is_within;
+use json_chars::Step;
+use json_chars::step_at;
+
+// The three types of text, each with its rules.
+pub enum TextType {
+    Text,
+    String,
+    StringID,
+}
+
+// The first wrong character: the rule it breaks (1 barred control, 2 whitespace, 3 outside the ID
+// set, 4 unpaired surrogate; 0 where no character is wrong) and the place of its first byte.
+pub struct Wrong {
+    pub rule: u32,
+    pub place: usize,
+}
+
+pub struct TextRead {
+    pub reading: Reading,
+    pub wrong: Wrong,
+}
+
+fn is_barred(c: u32) -> bool
+    ensures { λ r. ⌜ r ≡ barred c ⌝ }
+{
+    if is_within(0, 8, c) {
+        return true;
+    }
+    if is_within(0xB, 0xC, c) {
+        return true;
+    }
+    if is_within(0xE, 0x1F, c) {
+        return true;
+    }
+    c == 0x7F
+}
+
+fn is_blank(c: u32) -> bool
+    ensures { λ r. ⌜ r ≡ isWhite TextType.String c ⌝ }
+{
+    if c == 9 {
+        return true;
+    }
+    if c == 10 {
+        return true;
+    }
+    if c == 13 {
+        return true;
+    }
+    c == 32
+}
+
+fn is_white(ty: TextType, c: u32) -> bool
+    ensures { λ r. ⌜ r ≡ isWhite ty c ⌝ }
+{
+    match ty {
+        TextType::Text => false,
+        TextType::String => is_blank(c),
+        TextType::StringID => is_blank(c),
+    }
+}
+
+fn is_wrong_space(ty: TextType, c: u32, edge: bool) -> bool
+    ensures { λ r. ⌜ r ≡ wrongSpace ty c edge ⌝ }
+{
+    if is_white(ty, c) {
+        if edge {
+            return true;
+        }
+        return c != 32;
+    }
+    false
+}
+
+fn is_outside(ty: TextType, c: u32) -> bool
+    ensures { λ r. ⌜ r ≡ outsideID ty c ⌝ }
+{
+    match ty {
+        TextType::Text => false,
+        TextType::String => false,
+        TextType::StringID => !is_within(0x20, 0x7E, c),
+    }
+}
+
+// The rule that a character breaks, 0 for none; at an edge no space may stand.
+fn rule_of(ty: TextType, c: u32, edge: bool) -> u32
+    ensures { λ r. ⌜ r ≡ ruleOf ty c edge ⌝ }
+{
+    if is_barred(c) {
+        return 1;
+    }
+    if is_wrong_space(ty, c, edge) {
+        return 2;
+    }
+    if is_outside(ty, c) {
+        return 3;
+    }
+    if is_within(0xD800, 0xDFFF, c) {
+        return 4;
+    }
+    0
+}
+
+// Whether a character that ends at `next` stands at an edge: behind another edge or a space, or
+// right before the closing quote.
+fn is_edge(edge: bool, s: &[u8], next: usize) -> bool
+    ensures { λ r. ⌜ r ≡ (edge || closesAt (now (s .entry)) next) ⌝ }
+{
+    if edge {
+        return true;
+    }
+    byte_at(s, next) == 34
+}
+
+// The earlier wrong character, or else the one at i where it breaks a rule.
+fn first_of(earlier: Wrong, rule: u32, i: usize) -> Wrong
+    ensures { λ r. ⌜ r ≡ firstOf earlier (wrongHere rule i) ⌝ }
+{
+    if 0 < earlier.rule {
+        return earlier;
+    }
+    if 0 < rule {
+        return Wrong { rule, place: i };
+    }
+    Wrong { rule: 0, place: 0 }
+}
+
+// The string whose opening quote stands at `at`: the place behind its closing quote or its fault,
+// and its first character that breaks a rule of the type.
+pub fn read_text(s: &[u8], at: usize, ty: TextType) -> TextRead
+    ensures { λ r. ⌜ r ≡ textRead ty (now (s .entry)) at ⌝ }
+{
+    let mut wrong = Wrong { rule: 0, place: 0 };
+    if byte_at(s, at) != 34 {
+        return TextRead {
+            reading: Reading::Fault {
+                kind: 11,
+                place: at,
+            },
+            wrong,
+        };
+    }
+    let mut i = at + 1;
+    let mut edge = true;
+    loop {
+        match step_at(s, i) {
+            Step::Char { code, next } => {
+                wrong = first_of(wrong, rule_of(ty, code, is_edge(edge, s, next)), i);
+                edge = code == 32;
+                i = next;
+            }
+            Step::Close => {
+                return TextRead {
+                    reading: Reading::Whole { end: i + 1 },
+                    wrong,
+                };
+            }
+            Step::Bad { kind, place } => {
+                return TextRead {
+                    reading: Reading::Fault { kind, place },
+                    wrong,
+                };
+            }
+        }
+    }
+}

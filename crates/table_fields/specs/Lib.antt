@@ -1,0 +1,4 @@
+pub mod Ascii
+pub mod Fields
+pub mod Enumerations
+pub mod Flat

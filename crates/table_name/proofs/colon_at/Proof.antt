@@ -1,0 +1,43 @@
+-- `table_name::colon_at` meets its contract: the tests that led to each answer decide the definition.
+use borrow.Author.Needs.{needs}
+use mathlib.Core.Path.{_≡_, refl, sym, ap, _∙_}
+use borrow.Author.Tests.{eq-eqb, ne-eqb, lt-ltb, le-ltb, le-leb, lt-leb}
+use native.Mathlib.Omega.{arith}
+use denote.Ref.{now}
+use lib.Dec.{lit<}
+use Rattle.json_bytes.proofs.Laws.{inside}
+use Rattle.json_bytes.specs.declared.Reading.the-variants.{Whole}
+use Rattle.table_name.specs.Name.{colonAt}
+use Rattle.table_name.proofs.colon_at.Statement.{statement}
+use Rattle.table_name.proofs.colon_at.Tie as tie
+
+skip-spaces-requires : tie.Need-skip-spaces-requires
+skip-spaces-requires c κs = search needs
+
+byte-at-requires : tie.Need-byte-at-requires
+byte-at-requires c κs = search needs
+
+add-skip-spaces : tie.Need-add-skip-spaces
+add-skip-spaces c = omega (arith, inside (now (c .before .before .before .before .args .s)) _ 58 (sym (c .before .byte-at .ensures) ∙ c .if1 .taken) (lit< tt))
+
+skip-spaces-requires-2 : tie.Need-skip-spaces-requires-2
+skip-spaces-requires-2 c κs = search needs
+
+returns : tie.Need-returns
+unfolding colonAt
+returns c = rw (← (c .before .before .before .skip-spaces .ensures), ← (c .before .before .byte-at .ensures), eq-eqb _ 58 (c .before .if1 .taken)) (ap Whole (c .skip-spaces2 .ensures))
+
+returns-2 : tie.Need-returns-2
+unfolding colonAt
+returns-2 c = rw (← (c .before .before .skip-spaces .ensures), ← (c .before .byte-at .ensures), ne-eqb _ 58 (c .if1 .left))
+
+pub colon-at-spec : {M : Type 1} → statement M
+colon-at-spec =
+    tie.close
+    (tie.spec
+    skip-spaces-requires
+    byte-at-requires
+    add-skip-spaces
+    skip-spaces-requires-2
+    returns
+    returns-2)

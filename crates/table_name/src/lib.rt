@@ -1,0 +1,115 @@
+// What stands around the values of a table: the name of a field, the colon behind it, and what
+// follows in an object or an array.
+ghost use mathlib.Core.Path.{_≡_};
+ghost use Rattle.json_chars.specs.Chars.{charsAt};
+ghost use Rattle.table_fields.specs.Flat.{fieldsFrom};
+ghost use Rattle.table_name.specs.Name.{indexOf, namedAt, nameAt, colonAt, firstIn, nextAfter};
+use json_bytes::Reading;
+use json_bytes::byte_at;
+use json_bytes::skip_spaces;
+use json_same::Case;
+use json_same::text_is;
+use json_text::TextType;
+use json_text::read_text;
+use table_fields::name_end;
+use table_fields::name_start;
+use table_fields::part;
+
+// A field's name: the field's place among those of its table and the place behind the name, or a
+// fault.
+pub enum NameRead {
+    Known { index: usize, end: usize },
+    Unknown { kind: u32, place: usize },
+}
+
+// What follows in an object or an array: another member at a place, the closing brace or bracket at
+// a place, or neither.
+pub enum Next {
+    More { at: usize },
+    Ends { at: usize },
+    Neither { at: usize },
+}
+
+// The place among the table's `count` fields of the one that the string at `at` names; `count` for
+// none. Each comparison stops at the first character that differs.
+fn index_of(s: &[u8], at: usize, rows: &[u32], names: &[u8], count: usize) -> usize
+    ensures { λ r. ⌜ r ≡ indexOf (charsAt (now (s .entry)) at) (fieldsFrom (now (rows .entry)) (now (names .entry)) count 0) ⌝ }
+{
+    let mut k = 0;
+    while k < count {
+        let from = name_start(rows, k);
+        let to = name_end(rows, k);
+        if text_is(s, at, part(names, from, to), Case::Kept) {
+            return k;
+        }
+        k += 1;
+    }
+    k
+}
+
+// The name whose opening quote stands at `at`, read whole and then looked for.
+pub fn name_at(s: &[u8], at: usize, rows: &[u32], names: &[u8], count: usize) -> NameRead
+    ensures { λ r. ⌜ r ≡ nameAt (fieldsFrom (now (rows .entry)) (now (names .entry)) count 0) (now (s .entry)) at ⌝ }
+{
+    let reading = read_text(s, at, TextType::Text).reading;
+    match reading {
+        Reading::Whole { end } => {
+            let index = index_of(s, at, rows, names, count);
+            if index < count {
+                return NameRead::Known { index, end };
+            }
+            NameRead::Unknown {
+                kind: 13,
+                place: at,
+            }
+        }
+        Reading::Fault { kind, place } => NameRead::Unknown { kind, place },
+    }
+}
+
+// The place of the value behind a name that ends at `end`.
+pub fn colon_at(s: &[u8], end: usize) -> Reading
+    ensures { λ r. ⌜ r ≡ colonAt (now (s .entry)) end ⌝ }
+{
+    let colon = skip_spaces(s, end);
+    if byte_at(s, colon) == b':' {
+        return Reading::Whole {
+            end: skip_spaces(s, colon + 1),
+        };
+    }
+    Reading::Fault {
+        kind: 11,
+        place: colon,
+    }
+}
+
+// What stands behind an opening brace or bracket at `at`.
+pub fn first_in(s: &[u8], at: usize, closing: u8) -> Next
+    ensures { λ r. ⌜ r ≡ firstIn (now (s .entry)) at closing ⌝ }
+{
+    if s.len() <= at {
+        return Next::Neither { at };
+    }
+    let first = skip_spaces(s, at + 1);
+    if byte_at(s, first) == closing {
+        return Next::Ends { at: first };
+    }
+    Next::More { at: first }
+}
+
+// What stands behind a member that ends at `end`.
+pub fn next_after(s: &[u8], end: usize, closing: u8) -> Next
+    ensures { λ r. ⌜ r ≡ nextAfter (now (s .entry)) end closing ⌝ }
+{
+    let at = skip_spaces(s, end);
+    let b = byte_at(s, at);
+    if b == b',' {
+        return Next::More {
+            at: skip_spaces(s, at + 1),
+        };
+    }
+    if b == closing {
+        return Next::Ends { at };
+    }
+    Next::Neither { at }
+}

@@ -1,0 +1,254 @@
+// A value in a field of a type: where it ends and whether it is null, or the kind and place of its
+// fault. Types by number: 0 Boolean, 1 Date, 2 Decimal, 3 Integer, 4 String, 5 StringID, 6 Text.
+ghost use mathlib.Core.Path.{_≡_};
+ghost use Prim.Native.Nat.{_<_, _^_};
+ghost use lib.ListN.{length};
+ghost use Rattle.json_bytes.specs.Reads.{literalAt};
+ghost use Rattle.json_text.specs.Text.{textRead};
+ghost use Rattle.table_value.specs.Value.{textType, textHeld, dateHeld, stringIn, stringValue, decimalHeld, integerHeld, numberIn, numberValue, literalIn, literalValue, startsNumber, opens, valueAt, notObjectOf, notObjectAt};
+use json_bytes::Reading;
+use json_bytes::byte_at;
+use json_bytes::is_within;
+use json_bytes::literal_at;
+use json_date::Date;
+use json_date::date_at;
+use json_number::Integer;
+use json_number::Number;
+use json_number::Value;
+use json_number::integer_of;
+use json_number::number_at;
+use json_text::TextRead;
+use json_text::TextType;
+use json_text::read_text;
+
+// A value read whole, the place behind it with it, or a fault.
+pub enum ValueRead {
+    Held { end: usize },
+    Null { end: usize },
+    Bad { kind: u32, place: usize },
+}
+
+fn text_type(ty: u32) -> TextType
+    ensures { λ r. ⌜ r ≡ textType ty ⌝ }
+{
+    if ty == 4 {
+        return TextType::String;
+    }
+    if ty == 5 {
+        return TextType::StringID;
+    }
+    TextType::Text
+}
+
+// A string in a field of text, whose first broken rule is `rule`, 0 for none.
+fn text_held(at: usize, end: usize, rule: u32) -> ValueRead
+    requires { ⌜ at < 2 ^ 63 ⌝ }
+    ensures { λ r. ⌜ r ≡ textHeld at end rule ⌝ }
+{
+    if 0 < rule {
+        return ValueRead::Bad {
+            kind: 16,
+            place: at,
+        };
+    }
+    if end == at + 2 {
+        return ValueRead::Null { end };
+    }
+    ValueRead::Held { end }
+}
+
+fn date_held(at: usize, end: usize, date: Date) -> ValueRead
+    ensures { λ r. ⌜ r ≡ dateHeld at end date ⌝ }
+{
+    match date {
+        Date::Day {
+            year: _,
+            month: _,
+            day: _,
+        } => ValueRead::Held { end },
+        Date::NoDate => ValueRead::Bad {
+            kind: 17,
+            place: at,
+        },
+    }
+}
+
+fn string_in(s: &[u8], at: usize, ty: u32, end: usize, rule: u32) -> ValueRead
+    requires { ⌜ at < length (now s) ⌝ }
+    ensures { λ r. ⌜ r ≡ stringIn (now (s .entry)) at ty end rule ⌝ }
+{
+    if is_within(4, 6, ty) {
+        return text_held(at, end, rule);
+    }
+    if ty == 1 {
+        return date_held(at, end, date_at(s, at));
+    }
+    ValueRead::Bad {
+        kind: 15,
+        place: at,
+    }
+}
+
+fn string_value(s: &[u8], at: usize, ty: u32) -> ValueRead
+    requires { ⌜ at < length (now s) ⌝ }
+    ensures { λ r. ⌜ r ≡ stringValue (now (s .entry)) at ty (textRead (textType ty) (now (s .entry)) at) ⌝ }
+{
+    let read = read_text(s, at, text_type(ty));
+    let reading = read.reading;
+    let rule = read.wrong.rule;
+    match reading {
+        Reading::Whole { end } => string_in(s, at, ty, end, rule),
+        Reading::Fault { kind, place } => ValueRead::Bad { kind, place },
+    }
+}
+
+fn decimal_held(at: usize, end: usize, v: Value) -> ValueRead
+    ensures { λ r. ⌜ r ≡ decimalHeld at end v ⌝ }
+{
+    match v {
+        Value::Fits {
+            negative: _,
+            c: _,
+            p15: _,
+        } => ValueRead::Held { end },
+        Value::Beyond => ValueRead::Bad {
+            kind: 18,
+            place: at,
+        },
+    }
+}
+
+fn integer_held(at: usize, end: usize, n: Integer) -> ValueRead
+    ensures { λ r. ⌜ r ≡ integerHeld at end n ⌝ }
+{
+    match n {
+        Integer::Is {
+            negative: _,
+            magnitude: _,
+        } => ValueRead::Held { end },
+        Integer::Fraction => ValueRead::Bad {
+            kind: 15,
+            place: at,
+        },
+        Integer::TooLarge => ValueRead::Bad {
+            kind: 18,
+            place: at,
+        },
+    }
+}
+
+fn number_in(at: usize, ty: u32, end: usize, v: Value) -> ValueRead
+    ensures { λ r. ⌜ r ≡ numberIn at ty end v ⌝ }
+{
+    if ty == 2 {
+        return decimal_held(at, end, v);
+    }
+    if ty == 3 {
+        return integer_held(at, end, integer_of(v));
+    }
+    ValueRead::Bad {
+        kind: 15,
+        place: at,
+    }
+}
+
+fn number_value(at: usize, ty: u32, n: Number) -> ValueRead
+    ensures { λ r. ⌜ r ≡ numberValue at ty n ⌝ }
+{
+    let reading = n.reading;
+    let value = n.value;
+    match reading {
+        Reading::Whole { end } => number_in(at, ty, end, value),
+        Reading::Fault { kind, place } => ValueRead::Bad { kind, place },
+    }
+}
+
+fn literal_in(s: &[u8], at: usize, ty: u32, end: usize) -> ValueRead
+    ensures { λ r. ⌜ r ≡ literalIn (now (s .entry)) at ty end ⌝ }
+{
+    if byte_at(s, at) == b'n' {
+        return ValueRead::Null { end };
+    }
+    if ty == 0 {
+        return ValueRead::Held { end };
+    }
+    ValueRead::Bad {
+        kind: 15,
+        place: at,
+    }
+}
+
+fn literal_value(s: &[u8], at: usize, ty: u32) -> ValueRead
+    ensures { λ r. ⌜ r ≡ literalValue (now (s .entry)) at ty (literalAt (now (s .entry)) at) ⌝ }
+{
+    match literal_at(s, at) {
+        Reading::Whole { end } => literal_in(s, at, ty, end),
+        Reading::Fault { kind, place } => ValueRead::Bad { kind, place },
+    }
+}
+
+fn starts_number(b: u8) -> bool
+    ensures { λ r. ⌜ r ≡ startsNumber b ⌝ }
+{
+    if b == b'-' {
+        return true;
+    }
+    is_within(48, 57, b as u32)
+}
+
+fn is_opening(b: u8) -> bool
+    ensures { λ r. ⌜ r ≡ opens b ⌝ }
+{
+    if b == b'[' {
+        return true;
+    }
+    b == b'{'
+}
+
+// The value at a place, in a field of type ty.
+pub fn value_at(s: &[u8], at: usize, ty: u32) -> ValueRead
+    ensures { λ r. ⌜ r ≡ valueAt (now (s .entry)) at ty ⌝ }
+{
+    let b = byte_at(s, at);
+    if b == b'"' {
+        return string_value(s, at, ty);
+    }
+    if starts_number(b) {
+        return number_value(at, ty, number_at(s, at));
+    }
+    if is_opening(b) {
+        return ValueRead::Bad {
+            kind: 15,
+            place: at,
+        };
+    }
+    literal_value(s, at, ty)
+}
+
+fn not_object_of(at: usize, v: ValueRead) -> Reading
+    ensures { λ r. ⌜ r ≡ notObjectOf at v ⌝ }
+{
+    match v {
+        ValueRead::Held { end: _ } => Reading::Fault {
+            kind: 12,
+            place: at,
+        },
+        ValueRead::Null { end: _ } => Reading::Fault {
+            kind: 12,
+            place: at,
+        },
+        ValueRead::Bad { kind, place } => {
+            if kind == 15 {
+                return Reading::Fault { kind: 12, place };
+            }
+            Reading::Fault { kind, place }
+        }
+    }
+}
+
+// What is wrong with a value where an object belongs: 12, or the fault inside it.
+pub fn not_object_at(s: &[u8], at: usize) -> Reading
+    ensures { λ r. ⌜ r ≡ notObjectAt (now (s .entry)) at ⌝ }
+{
+    not_object_of(at, value_at(s, at, 7))
+}

@@ -1,0 +1,262 @@
+//! Feeds cases to a program, or to this one, and compares every answer.
+
+use std::io::{self, BufReader, BufWriter, Read, Write};
+use std::process::{Child, ChildStdin, Command, ExitStatus, Stdio};
+use std::sync::mpsc::{channel, Receiver, RecvTimeoutError};
+use std::sync::{Mutex, MutexGuard};
+use std::thread;
+use std::time::Duration;
+
+const MOST_SHOWN: usize = 20;
+const POLL: Duration = Duration::from_millis(5);
+
+/// A case of some layer: how it and its answer are sent, and what this program
+/// answers to it.
+pub trait Question: Sized + Sync {
+    type Answer: PartialEq;
+
+    fn write(&self, out: &mut impl Write) -> io::Result<()>;
+
+    /// The next case, or nothing at the end of the input.
+    fn read(input: &mut impl Read) -> io::Result<Option<Self>>;
+
+    fn answer(&self) -> Self::Answer;
+
+    fn write_answer(answer: &Self::Answer, out: &mut impl Write) -> io::Result<()>;
+
+    /// The next answer, or nothing if no whole answer is left.
+    fn read_answer(input: &mut impl Read) -> Option<Self::Answer>;
+
+    /// The case and what is wrong with its answer, in lines.
+    fn describe(&self, expected: &Self::Answer, answered: &Self::Answer) -> String;
+}
+
+/// A case and its number among all cases.
+pub type Numbered<'a, Q> = (usize, &'a Q);
+
+/// How many answers were right, and what to say of those that were not.
+#[derive(Debug, Default)]
+pub struct Tally {
+    pub passed: usize,
+    pub failed: usize,
+    pub messages: Vec<String>,
+}
+
+impl Tally {
+    fn fail(&mut self, count: usize, message: String) {
+        self.failed += count;
+        if self.messages.len() < MOST_SHOWN {
+            self.messages.push(message);
+        }
+    }
+
+    pub fn last_line(&self) -> String {
+        format!("{} passed, {} failed", self.passed, self.failed)
+    }
+}
+
+/// Compares this program with itself, by way of the bytes that would be sent.
+pub fn compare_with_self<Q: Question>(cases: &[Numbered<Q>]) -> Tally {
+    let mut sent = cases.iter();
+    compare_answers(cases, || sent.next().and_then(|(_, case)| answer_by_bytes(*case)))
+}
+
+fn answer_by_bytes<Q: Question>(case: &Q) -> Option<Q::Answer> {
+    let mut bytes = Vec::new();
+    case.write(&mut bytes).ok()?;
+    let mut answered = Vec::new();
+    serve::<Q>(&mut &bytes[..], &mut answered).ok()?;
+    Q::read_answer(&mut &answered[..])
+}
+
+/// Answers every case of the input: what a program under test does.
+pub fn serve<Q: Question>(input: &mut impl Read, output: &mut impl Write) -> io::Result<()> {
+    while let Some(case) = Q::read(input)? {
+        Q::write_answer(&case.answer(), output)?;
+    }
+    output.flush()
+}
+
+/// Compares a program with this one. A program that still runs when the time
+/// is over is ended, and so has answered too little.
+pub fn compare_with_program<Q: Question>(
+    command: &mut Command,
+    cases: &[Numbered<Q>],
+    time: Duration,
+) -> Tally {
+    match command.stdin(Stdio::piped()).stdout(Stdio::piped()).spawn() {
+        Ok(child) => compare_with_child(child, cases, time),
+        Err(error) => {
+            let mut tally = Tally::default();
+            tally.fail(cases.len(), format!("the program can't be started: {error}"));
+            tally
+        }
+    }
+}
+
+fn compare_with_child<Q: Question>(
+    mut child: Child,
+    cases: &[Numbered<Q>],
+    time: Duration,
+) -> Tally {
+    let input = child.stdin.take().expect("standard input is piped");
+    let mut output = BufReader::new(child.stdout.take().expect("standard output is piped"));
+    let child = Mutex::new(child);
+    let (done, is_done) = channel::<()>();
+    thread::scope(|scope| {
+        // Written beside the reading, so that neither pipe can fill up.
+        scope.spawn(|| send_all(input, cases));
+        scope.spawn(|| end_when_late(&child, is_done, time));
+        let mut tally = compare_answers(cases, || Q::read_answer(&mut output));
+        check_nothing_is_left(&mut output, &mut tally);
+        check_status(wait_for(&child), &mut tally);
+        drop(done);
+        tally
+    })
+}
+
+/// A program that stops reading is found out by its missing answers, so an
+/// error here only ends the writing. Dropping the pipe is the end of input.
+fn send_all<Q: Question>(input: ChildStdin, cases: &[Numbered<Q>]) {
+    let mut input = BufWriter::with_capacity(1 << 16, input);
+    for (_, case) in cases {
+        if case.write(&mut input).is_err() {
+            return;
+        }
+    }
+    // The error, if any, is found out in the same way.
+    let _ = input.flush();
+}
+
+fn end_when_late(child: &Mutex<Child>, is_done: Receiver<()>, time: Duration) {
+    if is_done.recv_timeout(time) == Err(RecvTimeoutError::Timeout) {
+        // It may have ended by itself just now.
+        let _ = lock(child).kill();
+    }
+}
+
+fn lock(child: &Mutex<Child>) -> MutexGuard<'_, Child> {
+    child.lock().expect("no thread fails while it holds the program")
+}
+
+/// Polls, so that a late program can be ended in between.
+fn wait_for(child: &Mutex<Child>) -> io::Result<ExitStatus> {
+    loop {
+        if let Some(status) = lock(child).try_wait()? {
+            return Ok(status);
+        }
+        thread::sleep(POLL);
+    }
+}
+
+fn check_nothing_is_left(output: &mut impl Read, tally: &mut Tally) {
+    match io::copy(output, &mut io::sink()) {
+        Ok(0) => {}
+        Ok(count) => tally.fail(1, format!("{count} bytes follow the last answer")),
+        Err(error) => tally.fail(1, format!("the output can't be read: {error}")),
+    }
+}
+
+fn check_status(status: io::Result<ExitStatus>, tally: &mut Tally) {
+    match status {
+        Ok(status) if status.success() => {}
+        Ok(status) => tally.fail(1, format!("the program ended with {status}")),
+        Err(error) => tally.fail(1, format!("the program's end can't be known: {error}")),
+    }
+}
+
+/// Compares each answer with this program's own. Once an answer is missing,
+/// it and all later ones are failures.
+fn compare_answers<Q: Question>(
+    cases: &[Numbered<Q>],
+    mut next: impl FnMut() -> Option<Q::Answer>,
+) -> Tally {
+    let mut tally = Tally::default();
+    for (index, &(number, case)) in cases.iter().enumerate() {
+        let expected = case.answer();
+        match next() {
+            Some(answered) if answered == expected => tally.passed += 1,
+            Some(answered) => tally.fail(1, describe(number, case, &expected, &answered)),
+            None => {
+                let missing = cases.len() - index;
+                let asked = cases.len();
+                tally.fail(missing, format!("only {index} of {asked} answers came"));
+                break;
+            }
+        }
+    }
+    tally
+}
+
+/// All it takes to run the case again by itself.
+fn describe<Q: Question>(
+    number: usize,
+    case: &Q,
+    expected: &Q::Answer,
+    answered: &Q::Answer,
+) -> String {
+    format!("case {number} (--only {number}): {}", case.describe(expected, answered))
+}
+
+/// The bytes as hex; of a slice of more than `most` only both ends.
+pub fn hex(bytes: &[u8], most: usize) -> String {
+    let digits =
+        |part: &[u8]| -> String { part.iter().map(|byte| format!("{byte:02x}")).collect() };
+    if bytes.len() <= most {
+        return format!("({}) {}", bytes.len(), digits(bytes));
+    }
+    let half = most / 2;
+    let (front, back) = (&bytes[..half], &bytes[bytes.len() - half..]);
+    format!("({}) {} .. {}", bytes.len(), digits(front), digits(back))
+}
+
+#[cfg(test)]
+mod tests {
+    use super::*;
+    use crate::compare::case::Case;
+
+    fn cases() -> Vec<Case> {
+        let case = |at| Case { op: 1, at, other: 0, a: b" x ".to_vec(), b: Vec::new() };
+        (0..4).map(case).collect()
+    }
+
+    fn numbered(cases: &[Case]) -> Vec<Numbered<'_, Case>> {
+        cases.iter().enumerate().collect()
+    }
+
+    #[test]
+    fn right_answers_pass() {
+        let cases = cases();
+        let tally = compare_with_self(&numbered(&cases));
+        assert_eq!(tally.last_line(), "4 passed, 0 failed");
+    }
+
+    #[test]
+    fn a_wrong_answer_is_shown() {
+        let cases = cases();
+        let mut answers = cases.iter().map(Case::answer);
+        let mut asked = 0;
+        let tally = compare_answers(&numbered(&cases), || {
+            asked += 1;
+            answers.next().map(|right| if asked == 3 { [9; 4] } else { right })
+        });
+        assert_eq!(tally.last_line(), "3 passed, 1 failed");
+        assert!(
+            tally.messages[0].starts_with("case 2 (--only 2): op 1 at 2 other 0\n  A (3) 207820\n")
+        );
+    }
+
+    #[test]
+    fn missing_answers_fail() {
+        let cases = cases();
+        let mut answers = cases[..1].iter().map(Case::answer);
+        let tally = compare_answers(&numbered(&cases), || answers.next());
+        assert_eq!(tally.last_line(), "1 passed, 3 failed");
+    }
+
+    #[test]
+    fn long_slices_are_shortened() {
+        assert_eq!(hex(&[0xAB; 4], 4), "(4) abababab");
+        assert_eq!(hex(&[0xAB, 0, 0, 0, 0xCD], 4), "(5) ab00 .. 00cd");
+    }
+}

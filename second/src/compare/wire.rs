@@ -1,0 +1,106 @@
+//! Numbers and slices as bytes between two programs.
+
+use std::io::{self, ErrorKind, Read, Write};
+
+/// No slice of a case is longer.
+pub const LONGEST: usize = 1_048_576;
+
+pub fn write_words(out: &mut impl Write, words: &[u32]) -> io::Result<()> {
+    for word in words {
+        out.write_all(&word.to_le_bytes())?;
+    }
+    Ok(())
+}
+
+pub fn read_word(input: &mut impl Read) -> io::Result<u32> {
+    let mut bytes = [0; 4];
+    input.read_exact(&mut bytes)?;
+    Ok(u32::from_le_bytes(bytes))
+}
+
+/// The first word of a case, or nothing at the end of the input.
+pub fn read_first_word(input: &mut impl Read) -> io::Result<Option<u32>> {
+    let mut bytes = [0; 4];
+    let filled = fill_or_end(input, &mut bytes)?;
+    Ok(filled.then_some(u32::from_le_bytes(bytes)))
+}
+
+/// Fills the buffer, or says that the input ended before its first byte.
+fn fill_or_end(input: &mut impl Read, buffer: &mut [u8]) -> io::Result<bool> {
+    let mut filled = 0;
+    while filled < buffer.len() {
+        match input.read(&mut buffer[filled..]) {
+            Ok(0) if filled == 0 => return Ok(false),
+            Ok(0) => return Err(ErrorKind::UnexpectedEof.into()),
+            Ok(count) => filled += count,
+            Err(error) if error.kind() == ErrorKind::Interrupted => {}
+            Err(error) => return Err(error),
+        }
+    }
+    Ok(true)
+}
+
+pub fn read_slice(input: &mut impl Read, length: u32) -> io::Result<Vec<u8>> {
+    let length = length as usize;
+    if length > LONGEST {
+        return Err(unsound("a slice is too long"));
+    }
+    let mut slice = vec![0; length];
+    input.read_exact(&mut slice)?;
+    Ok(slice)
+}
+
+/// The error for input that no comparison sends.
+pub fn unsound(why: &'static str) -> io::Error {
+    io::Error::new(ErrorKind::InvalidData, why)
+}
+
+/// The four numbers that each answer has or begins with.
+pub type Four = [u64; 4];
+
+pub fn write_four(out: &mut impl Write, four: &Four) -> io::Result<()> {
+    for number in four {
+        out.write_all(&number.to_le_bytes())?;
+    }
+    Ok(())
+}
+
+/// The next four numbers, or nothing if they aren't all there.
+pub fn read_four(input: &mut impl Read) -> Option<Four> {
+    let mut bytes = [0; 32];
+    input.read_exact(&mut bytes).ok()?;
+    let mut four = [0; 4];
+    for (number, chunk) in four.iter_mut().zip(bytes.chunks_exact(8)) {
+        *number = u64::from_le_bytes(chunk.try_into().expect("chunks of 8 bytes"));
+    }
+    Some(four)
+}
+
+#[cfg(test)]
+mod tests {
+    use super::*;
+
+    #[test]
+    fn four_numbers_come_back_from_their_bytes() {
+        let mut bytes = Vec::new();
+        write_four(&mut bytes, &[1, 2, u64::MAX, 4]).unwrap();
+        assert_eq!(bytes.len(), 32);
+        assert_eq!(read_four(&mut &bytes[..]), Some([1, 2, u64::MAX, 4]));
+        assert_eq!(read_four(&mut &bytes[..31]), None);
+    }
+
+    #[test]
+    fn a_first_word_may_be_missing_but_not_cut() {
+        assert_eq!(read_first_word(&mut &[7, 0, 0, 1][..]).unwrap(), Some(0x0100_0007));
+        assert_eq!(read_first_word(&mut &[][..]).unwrap(), None);
+        assert!(read_first_word(&mut &[7, 0, 0][..]).is_err());
+    }
+
+    #[test]
+    fn a_slice_is_whole_and_not_too_long() {
+        assert_eq!(read_slice(&mut &b"abc"[..], 2).unwrap(), b"ab");
+        assert!(read_slice(&mut &b"abc"[..], 4).is_err());
+        assert!(read_slice(&mut io::repeat(0), 1_048_576).is_ok());
+        assert!(read_slice(&mut io::repeat(0), 1_048_577).is_err());
+    }
+}

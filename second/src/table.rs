@@ -1,0 +1,351 @@
+//! A file read by itself: its own mark (0 to 19) and, if that holds, its
+//! records with their values and where these stand.
+
+use std::collections::{HashMap, HashSet};
+
+use crate::board::Mark;
+use crate::fields::{fields_of, Field, Type};
+use crate::json::{
+    byte_at, date_of, first_breach, not_json, read_literal, read_number, read_string, skip_spaces,
+    Date, Fault, JsonString, Literal, Number, NumberToken, TextKind, Whole,
+};
+
+pub const FILE_TYPE: &[u8] = b"IPMDAR_SCHEDULE_PERFORMANCE_DATASET/1.0";
+pub const MOST_RECORDS: usize = 4096;
+
+const NOT_A_TABLE: u32 = 12;
+const UNKNOWN_NAME: u32 = 13;
+const NAME_TWICE: u32 = 14;
+const WRONG_JSON_KIND: u32 = 15;
+const STRING_RULE: u32 = 16;
+const NOT_A_DATE: u32 = 17;
+const BEYOND_LIMITS: u32 = 18;
+const MISSING_VALUE: u32 = 19;
+const TOO_MANY_RECORDS: u32 = 20;
+const FILE_MISSING: u32 = 21;
+const WRONG_FILE_TYPE: u32 = 22;
+
+/// A value that isn't null.
+#[derive(Clone, Debug, PartialEq)]
+pub enum Value {
+    /// String, StringID and Text: decoded, never empty.
+    Text(String),
+    Boolean(bool),
+    Date(Date),
+    Decimal(Number),
+    Integer(i64),
+}
+
+/// Where a field's value stands in its file: its first byte, and the one after
+/// its last, quotes included. A null that is written, as `null` or as an empty
+/// string, has the end 0; of an absent field both are 0.
+#[derive(Clone, Copy, Debug, Default, PartialEq, Eq)]
+pub struct Place {
+    pub start: u32,
+    pub end: u32,
+}
+
+/// The values of one record by field name, and the places of all the fields
+/// that are written. A null field has no value, an absent one no place either.
+#[derive(Clone, Debug, Default)]
+pub struct Record {
+    values: HashMap<&'static str, Value>,
+    places: HashMap<&'static str, Place>,
+}
+
+impl Record {
+    /// Enters what is written from `start` up to `after`.
+    fn enter(&mut self, name: &'static str, value: Option<Value>, start: usize, after: usize) {
+        let end = if value.is_some() { offset(after) } else { 0 };
+        self.places.insert(name, Place { start: offset(start), end });
+        if let Some(value) = value {
+            self.values.insert(name, value);
+        }
+    }
+
+    pub fn place(&self, name: &str) -> Place {
+        self.places.get(name).copied().unwrap_or_default()
+    }
+
+    pub fn value(&self, name: &str) -> Option<&Value> {
+        self.values.get(name)
+    }
+
+    pub fn is_null(&self, name: &str) -> bool {
+        self.value(name).is_none()
+    }
+
+    /// A StringID with A-Z folded to a-z: the form in which IDs and
+    /// enumeration values are compared.
+    pub fn id(&self, name: &str) -> Option<String> {
+        match self.value(name) {
+            Some(Value::Text(text)) => Some(text.to_ascii_lowercase()),
+            _ => None,
+        }
+    }
+
+    pub fn decimal(&self, name: &str) -> Option<Number> {
+        match self.value(name) {
+            Some(Value::Decimal(number)) => Some(*number),
+            _ => None,
+        }
+    }
+
+    pub fn integer(&self, name: &str) -> Option<i64> {
+        match self.value(name) {
+            Some(Value::Integer(integer)) => Some(*integer),
+            _ => None,
+        }
+    }
+
+    pub fn is_true(&self, name: &str) -> bool {
+        self.value(name) == Some(&Value::Boolean(true))
+    }
+}
+
+/// A file's records, or the mark that it gets instead.
+pub type Reading = Result<Vec<Record>, Mark>;
+
+/// Reads the file of that number as it stands, or as omitted.
+pub fn read_file(number: usize, contents: Option<&[u8]>) -> Reading {
+    match (number, contents) {
+        (0 | 1 | 3, None) => Err(Mark { kind: FILE_MISSING, place: 0 }),
+        (_, None) => Ok(Vec::new()),
+        (0, Some(bytes)) if bytes == FILE_TYPE => Ok(Vec::new()),
+        (0, Some(_)) => Err(Mark { kind: WRONG_FILE_TYPE, place: 0 }),
+        (_, Some(bytes)) => {
+            let reader = Reader { bytes, table: number };
+            reader.read_whole_file().map_err(mark_of_fault)
+        }
+    }
+}
+
+fn mark_of_fault(fault: Fault) -> Mark {
+    Mark { kind: fault.kind, place: offset(fault.place) }
+}
+
+fn offset(place: usize) -> u32 {
+    u32::try_from(place).expect("a file's length has 32 bits")
+}
+
+fn is_singleton(table: usize) -> bool {
+    (1..=3).contains(&table)
+}
+
+fn fault<T>(kind: u32, place: usize) -> Result<T, Fault> {
+    Err(Fault { kind, place })
+}
+
+/// The JSON value that begins at a place, read whole if it is a scalar.
+enum Begun<'a> {
+    Array,
+    Object,
+    String(JsonString),
+    Number(NumberToken<'a>),
+    Literal(Literal, usize),
+}
+
+struct Reader<'a> {
+    bytes: &'a [u8],
+    table: usize,
+}
+
+impl<'a> Reader<'a> {
+    fn byte(&self, at: usize) -> u8 {
+        byte_at(self.bytes, at)
+    }
+
+    fn skip(&self, at: usize) -> usize {
+        skip_spaces(self.bytes, at)
+    }
+
+    /// The file's value, and nothing but spaces after it.
+    fn read_whole_file(&self) -> Result<Vec<Record>, Fault> {
+        let start = self.skip(0);
+        let (records, after) = if is_singleton(self.table) {
+            let (record, after) = self.read_singleton(start)?;
+            (vec![record], after)
+        } else {
+            self.read_array(start)?
+        };
+        let end = self.skip(after);
+        if end < self.bytes.len() {
+            return Err(not_json(end));
+        }
+        Ok(records)
+    }
+
+    fn read_singleton(&self, at: usize) -> Result<(Record, usize), Fault> {
+        match self.begin_value(at)? {
+            Begun::Object => self.read_record(at),
+            _ => fault(NOT_A_TABLE, at),
+        }
+    }
+
+    fn read_array(&self, at: usize) -> Result<(Vec<Record>, usize), Fault> {
+        match self.begin_value(at)? {
+            Begun::Array => {}
+            _ => return fault(NOT_A_TABLE, at),
+        }
+        let mut records = Vec::new();
+        let mut place = self.skip(at + 1);
+        if self.byte(place) == b']' {
+            return Ok((records, place + 1));
+        }
+        loop {
+            let (record, after) = self.read_element(place, records.len())?;
+            records.push(record);
+            let next = self.skip(after);
+            match self.byte(next) {
+                b',' => place = self.skip(next + 1),
+                b']' => return Ok((records, next + 1)),
+                _ => return Err(not_json(next)),
+            }
+        }
+    }
+
+    /// An element that is no object is a wrong table even where it would be
+    /// one record too many.
+    fn read_element(&self, at: usize, earlier: usize) -> Result<(Record, usize), Fault> {
+        match self.begin_value(at)? {
+            Begun::Object if earlier == MOST_RECORDS => fault(TOO_MANY_RECORDS, at),
+            Begun::Object => self.read_record(at),
+            _ => fault(NOT_A_TABLE, at),
+        }
+    }
+
+    /// Reads a scalar whole before anyone judges whether it belongs here;
+    /// of an array or object only the opening byte is looked at.
+    fn begin_value(&self, at: usize) -> Result<Begun<'a>, Fault> {
+        match self.byte(at) {
+            b'[' => Ok(Begun::Array),
+            b'{' => Ok(Begun::Object),
+            b'"' => read_string(self.bytes, at).map(Begun::String),
+            b'-' | b'0'..=b'9' => read_number(self.bytes, at).map(Begun::Number),
+            _ => read_literal(self.bytes, at).map(|(literal, end)| Begun::Literal(literal, end)),
+        }
+    }
+
+    /// Reads the record whose opening brace is at `at`.
+    fn read_record(&self, at: usize) -> Result<(Record, usize), Fault> {
+        let mut record = Record::default();
+        let mut seen: HashSet<&'static str> = HashSet::new();
+        let mut place = self.skip(at + 1);
+        if self.byte(place) != b'}' {
+            loop {
+                place = self.skip(self.read_member(place, &mut record, &mut seen)?);
+                match self.byte(place) {
+                    b',' => place = self.skip(place + 1),
+                    b'}' => break,
+                    _ => return Err(not_json(place)),
+                }
+            }
+        }
+        let is_missing = |field: &Field| !field.nullable && record.is_null(field.name);
+        if fields_of(self.table).any(is_missing) {
+            return fault(MISSING_VALUE, place);
+        }
+        Ok((record, place + 1))
+    }
+
+    /// Reads one name and value; gives the place after them.
+    fn read_member(
+        &self,
+        at: usize,
+        record: &mut Record,
+        seen: &mut HashSet<&'static str>,
+    ) -> Result<usize, Fault> {
+        if self.byte(at) != b'"' {
+            return Err(not_json(at));
+        }
+        let name = read_string(self.bytes, at)?;
+        let Some(field) = self.field_named(&name) else {
+            return fault(UNKNOWN_NAME, at);
+        };
+        if !seen.insert(field.name) {
+            return fault(NAME_TWICE, at);
+        }
+        let colon = self.skip(name.end);
+        if self.byte(colon) != b':' {
+            return Err(not_json(colon));
+        }
+        let start = self.skip(colon + 1);
+        let (value, after) = self.read_value(start, field.kind)?;
+        record.enter(field.name, value, start, after);
+        Ok(after)
+    }
+
+    /// Decoded, case kept.
+    fn field_named(&self, name: &JsonString) -> Option<&'static Field> {
+        let codes = || name.characters.iter().map(|c| c.code);
+        fields_of(self.table).find(|field| field.name.chars().map(u32::from).eq(codes()))
+    }
+
+    /// Reads and judges a value of that type; gives it, or nothing for null,
+    /// and the place after it.
+    fn read_value(&self, at: usize, kind: Type) -> Result<(Option<Value>, usize), Fault> {
+        match self.begin_value(at)? {
+            Begun::Array | Begun::Object => fault(WRONG_JSON_KIND, at),
+            Begun::String(string) => Ok((value_of_string(&string, kind, at)?, string.end)),
+            Begun::Number(token) => Ok((Some(value_of_number(&token, kind, at)?), token.end)),
+            Begun::Literal(literal, end) => Ok((value_of_literal(literal, kind, at)?, end)),
+        }
+    }
+}
+
+fn value_of_string(string: &JsonString, kind: Type, at: usize) -> Result<Option<Value>, Fault> {
+    match kind {
+        Type::Text => value_of_text(string, TextKind::Text, at),
+        Type::String => value_of_text(string, TextKind::String, at),
+        Type::StringID => value_of_text(string, TextKind::StringID, at),
+        Type::Date => value_of_date(string, at).map(Some),
+        Type::Boolean | Type::Decimal | Type::Integer => fault(WRONG_JSON_KIND, at),
+    }
+}
+
+fn value_of_text(string: &JsonString, kind: TextKind, at: usize) -> Result<Option<Value>, Fault> {
+    if first_breach(&string.characters, kind).is_some() {
+        return fault(STRING_RULE, at);
+    }
+    let text: String = string
+        .characters
+        .iter()
+        .map(|c| char::from_u32(c.code).expect("no rule lets a lone surrogate through"))
+        .collect();
+    // The empty string is null.
+    Ok((!text.is_empty()).then_some(Value::Text(text)))
+}
+
+fn value_of_date(string: &JsonString, at: usize) -> Result<Value, Fault> {
+    let codes: Vec<u32> = string.characters.iter().map(|c| c.code).collect();
+    match date_of(&codes) {
+        Some(date) => Ok(Value::Date(date)),
+        None => fault(NOT_A_DATE, at),
+    }
+}
+
+fn value_of_number(token: &NumberToken, kind: Type, at: usize) -> Result<Value, Fault> {
+    if !matches!(kind, Type::Decimal | Type::Integer) {
+        return fault(WRONG_JSON_KIND, at);
+    }
+    let Some(number) = token.value() else {
+        return fault(BEYOND_LIMITS, at);
+    };
+    if kind == Type::Decimal {
+        return Ok(Value::Decimal(number));
+    }
+    match number.whole() {
+        Whole::Integer(integer) => Ok(Value::Integer(integer)),
+        Whole::NotWhole => fault(WRONG_JSON_KIND, at),
+        Whole::Beyond => fault(BEYOND_LIMITS, at),
+    }
+}
+
+fn value_of_literal(literal: Literal, kind: Type, at: usize) -> Result<Option<Value>, Fault> {
+    match (literal, kind) {
+        (Literal::Null, _) => Ok(None),
+        (Literal::True, Type::Boolean) => Ok(Some(Value::Boolean(true))),
+        (Literal::False, Type::Boolean) => Ok(Some(Value::Boolean(false))),
+        _ => fault(WRONG_JSON_KIND, at),
+    }
+}

@@ -1,0 +1,8 @@
+//! The second program against hand-made cases of the requirements.
+
+mod changes;
+mod files;
+mod harness;
+mod points;
+mod rules;
+mod sample;

@@ -1,0 +1,168 @@
+//! The cases P1 to P12 and the printed case of the empty bundle.
+
+use crate::sample::{accepted, file_mark, Set};
+use second::gate::touched_marks;
+use second::print::report;
+
+#[test]
+fn p1_ids_are_compared_without_case() {
+    let resources = r#"[{"ID":"ENG-01","Name":"A","ElementOfCostID":"LABOR"},
+        {"ID":"eng-01","Name":"B","ElementOfCostID":"labor"}]"#;
+    let set = Set::empty().with(16, resources);
+    assert_eq!(set.mark(32), (1, 2));
+    assert_eq!(set.mark(46), (0, 0));
+}
+
+#[test]
+fn p2_ordinal_null_zero_and_zero_point_zero_are_one_value() {
+    let forms =
+        [r#","Ordinal":null"#, "", r#","Ordinal":0"#, r#","Ordinal":0.0"#, r#","Ordinal":-0"#];
+    for first in forms {
+        for second in forms {
+            let shifts = format!(r#"[{{"CalendarID":"C"{first}}},{{"CalendarID":"c"{second}}}]"#);
+            assert_eq!(Set::empty().with(7, &shifts).mark(23), (1, 2));
+        }
+    }
+    let shifts = r#"[{"CalendarID":"C"},{"CalendarID":"C","Ordinal":1}]"#;
+    assert_eq!(Set::empty().with(7, shifts).mark(23), (0, 0));
+}
+
+fn level(number: &str) -> (u32, u32) {
+    file_mark(15, format!(r#"[{{"Level":{number},"TaskID":"T"}}]"#).as_bytes())
+}
+
+fn hours(number: &str) -> (u32, u32) {
+    let text = format!(r#"[{{"CalendarID":"C","SundayWorkHours":{number}}}]"#);
+    file_mark(7, text.as_bytes())
+}
+
+#[test]
+fn p3_an_integer_is_whole_by_value() {
+    assert_eq!(level("10e-1"), (0, 0));
+    assert_eq!(Set::empty().with(15, r#"[{"Level":10e-1,"TaskID":"T"}]"#).mark(78), (0, 0));
+    assert_eq!(level("0.5"), (15, 10));
+}
+
+#[test]
+fn p4_minus_zero_is_not_below_zero() {
+    let shifts = |number: &str| {
+        let text = format!(r#"[{{"CalendarID":"C","SundayWorkHours":{number}}}]"#);
+        Set::empty().with(7, &text)
+    };
+    assert_eq!(shifts("-0").mark(68), (0, 0));
+    assert_eq!(shifts("-0.1").mark(68), (1, 1));
+    assert_eq!(shifts("-0").mark(69), (1, 1));
+}
+
+#[test]
+fn p5_fifteen_digits_fit() {
+    assert_eq!(hours("999999999999999"), (0, 0));
+    assert_eq!(hours("1000000000000000"), (18, 37));
+    assert_eq!(level("999999999999999"), (0, 0));
+    assert_eq!(level("1000000000000000"), (18, 10));
+}
+
+#[test]
+fn p6_powers_of_ten() {
+    assert_eq!(hours("1e15"), (0, 0));
+    assert_eq!(hours("1e16"), (18, 37));
+    assert_eq!(level("1e15"), (18, 10));
+}
+
+#[test]
+fn p7_leap_days() {
+    let exception = |date: &str| {
+        file_mark(8, format!(r#"[{{"CalendarID":"C","ExceptionDate":"{date}"}}]"#).as_bytes())
+    };
+    assert_eq!(exception("2000-02-29"), (0, 0));
+    assert_eq!(exception("1900-02-29"), (17, 35));
+}
+
+#[test]
+fn p8_two_spaces_break_string_and_not_text() {
+    assert_eq!(file_mark(2, br#"{"Data_SoftwareName":"A  B"}"#), (16, 21));
+    assert_eq!(file_mark(2, br#"{"Data_SoftwareComments":"A  B"}"#), (0, 0));
+}
+
+/// An outline of these levels and parents, with TaskIDs 1, 2, 3 and so on.
+fn outline(rows: &[(i64, &str)]) -> Set {
+    let row = |(index, (level, parent)): (usize, &(i64, &str))| {
+        format!(r#"{{"Level":{level},"TaskID":"{}","ParentTaskID":"{parent}"}}"#, index + 1)
+    };
+    let rows: Vec<String> = rows.iter().enumerate().map(row).collect();
+    Set::empty().with(15, &format!("[{}]", rows.join(",")))
+}
+
+#[test]
+fn p9_parents() {
+    let rows = [(1, ""), (2, "1"), (3, "2"), (3, "2"), (2, "1")];
+    assert_eq!(outline(&rows).mark(79), (0, 0));
+    for wrong in 0..5 {
+        for parent in ["", "1", "2", "3", "4", "5"] {
+            let mut changed = rows;
+            if changed[wrong].1 == parent {
+                continue;
+            }
+            changed[wrong].1 = parent;
+            assert_eq!(outline(&changed).mark(79), (1, wrong as u32 + 1));
+        }
+    }
+}
+
+#[test]
+fn p10_level_runs() {
+    assert_eq!(outline(&[(1, ""), (3, "1")]).mark(78), (1, 2));
+    assert_eq!(outline(&[(1, ""), (1, "")]).mark(78), (0, 0));
+}
+
+#[test]
+fn p11_missing_values() {
+    assert_eq!(file_mark(16, br#"[{"ID":"R1","Name":"Fitter"}]"#), (19, 27));
+    assert_eq!(file_mark(16, b"[{}]"), (19, 2));
+    assert_eq!(file_mark(16, b"[]"), (0, 0));
+}
+
+#[test]
+fn p12_marks_touched_by_file_9() {
+    let expected: Vec<usize> = [9, 25]
+        .into_iter()
+        .chain(39..=42)
+        .chain([51, 53])
+        .chain(55..=57)
+        .chain([59, 60, 64])
+        .chain(71..=74)
+        .chain([80])
+        .collect();
+    assert_eq!(touched_marks(9), expected);
+    assert_eq!(expected.len(), 19);
+}
+
+#[test]
+fn the_empty_bundle_prints_seven_marks() {
+    let expected = "marks 81\n0 21 0\n1 21 0\n3 21 0\n36 2 0\n37 2 0\n65 2 0\n66 2 0\nrefused 7\n";
+    assert_eq!(report(&Set::empty().bundle()), expected);
+}
+
+#[test]
+fn an_accepted_bundle_prints_so() {
+    assert_eq!(report(&accepted().bundle()), "marks 81\naccepted\n");
+}
+
+#[test]
+fn a_refused_bundle_prints_only_its_refusal() {
+    assert_eq!(report(b""), "bundle 1\n");
+    assert_eq!(report(&[0; 163]), "bundle 1\n");
+    assert_eq!(report(&[0; 164]), "bundle 2\n");
+    let mut longer = Set::empty().bundle();
+    longer.push(0);
+    assert_eq!(report(&longer), "bundle 3\n");
+}
+
+#[test]
+fn the_judging_program_takes_65536_bytes() {
+    let spaces = |count: usize| Set::empty().with(4, &format!("[]{}", " ".repeat(count)));
+    let fits = spaces(65_536 - 164 - 2).bundle();
+    assert_eq!(fits.len(), 65_536);
+    assert!(report(&fits).starts_with("marks 81\n"));
+    assert_eq!(report(&spaces(65_536 - 164 - 1).bundle()), "bundle 1\n");
+}
