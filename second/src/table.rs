@@ -128,7 +128,7 @@ fn offset(place: usize) -> u32 {
     u32::try_from(place).expect("a file's length has 32 bits")
 }
 
-fn is_singleton(table: usize) -> bool {
+pub fn is_singleton(table: usize) -> bool {
     (1..=3).contains(&table)
 }
 

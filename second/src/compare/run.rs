@@ -8,6 +8,7 @@ use std::thread;
 use std::time::Duration;
 
 const MOST_SHOWN: usize = 20;
+const MOST_LEFT: u64 = 1_048_576;
 const POLL: Duration = Duration::from_millis(5);
 
 /// A case of some layer: how it and its answer are sent, and what this program
@@ -108,7 +109,7 @@ fn compare_with_child<Q: Question>(
         scope.spawn(|| send_all(input, cases));
         scope.spawn(|| end_when_late(&child, is_done, time));
         let mut tally = compare_answers(cases, || Q::read_answer(&mut output));
-        check_nothing_is_left(&mut output, &mut tally);
+        check_nothing_is_left(output, &mut tally);
         check_status(wait_for(&child), &mut tally);
         drop(done);
         tally
@@ -149,10 +150,11 @@ fn wait_for(child: &Mutex<Child>) -> io::Result<ExitStatus> {
     }
 }
 
-fn check_nothing_is_left(output: &mut impl Read, tally: &mut Tally) {
-    match io::copy(output, &mut io::sink()) {
+/// Takes the pipe, so that a program that never stops writing meets its end.
+fn check_nothing_is_left(output: impl Read, tally: &mut Tally) {
+    match io::copy(&mut output.take(MOST_LEFT), &mut io::sink()) {
         Ok(0) => {}
-        Ok(count) => tally.fail(1, format!("{count} bytes follow the last answer")),
+        Ok(count) => tally.fail(1, format!("{count} bytes or more follow the last answer")),
         Err(error) => tally.fail(1, format!("the output can't be read: {error}")),
     }
 }
@@ -214,6 +216,7 @@ pub fn hex(bytes: &[u8], most: usize) -> String {
 mod tests {
     use super::*;
     use crate::compare::case::Case;
+    use crate::compare::tables::case::{TableAnswer, TableCase};
 
     fn cases() -> Vec<Case> {
         let case = |at| Case { op: 1, at, other: 0, a: b" x ".to_vec(), b: Vec::new() };
@@ -244,6 +247,29 @@ mod tests {
         assert!(
             tally.messages[0].starts_with("case 2 (--only 2): op 1 at 2 other 0\n  A (3) 207820\n")
         );
+    }
+
+    #[test]
+    fn each_number_of_a_reading_is_compared() {
+        let contents = br#"[{"CustomFieldID":"F","Value":"V"}]"#.to_vec();
+        let case = TableCase { number: 5, contents: Some(contents) };
+        let right = case.answer();
+        let spoil: [fn(&mut TableAnswer); 6] = [
+            |answer| answer.kind = 11,
+            |answer| answer.place = 1,
+            |answer| answer.records = 2,
+            |answer| answer.count = 5,
+            |answer| answer.cells[0] += 1,
+            |answer| answer.cells[3] = 0,
+        ];
+        for spoil in spoil {
+            let mut wrong = right.clone();
+            spoil(&mut wrong);
+            let tally = compare_answers(&[(0, &case)], || Some(wrong.clone()));
+            assert_eq!(tally.last_line(), "0 passed, 1 failed");
+        }
+        let tally = compare_answers(&[(0, &case)], || Some(right.clone()));
+        assert_eq!(tally.last_line(), "1 passed, 0 failed");
     }
 
     #[test]

@@ -3,6 +3,8 @@
 mod changes;
 mod files;
 mod harness;
+mod places;
 mod points;
 mod rules;
 mod sample;
+mod tables_harness;

@@ -1,0 +1,4 @@
+pub mod Cases
+pub mod Compare
+pub mod First
+pub mod Laws

@@ -1,0 +1,93 @@
+-- `table_record::read_pairs` meets its contract: what is left to read at the loop's head gives what the whole gives.
+use borrow.Author.Needs.{needs}
+use mathlib.Core.Path.{_≡_, refl, sym, ap, _∙_}
+use native.Mathlib.Omega.{arith}
+use denote.Ref.{now}
+use Prim.Native.Nat.{_-_, _≤_, _<_}
+use lib.ListN.{length}
+use Rattle.table_fields.specs.Flat.{fieldsFrom}
+use Rattle.table_record.specs.Record.{pairsFrom}
+use Rattle.table_record.proofs.Laws.{Left, left-all, more-place, ends-place, turn-more, turn-ends, turn-neither, turn-fault}
+use Rattle.table_record.proofs.read_pairs.Statement.{statement}
+use Rattle.table_record.proofs.read_pairs.Tie as tie
+
+abbrev Inv-loop : tie.InvT-loop
+Inv-loop s from rows names count cells₀ base at₀ cells at = (length cells ≡ length cells₀) × Left (fieldsFrom rows names count 0) s base (pairsFrom (length s) (fieldsFrom rows names count 0) s from cells₀ base) cells at
+
+abbrev μ-loop : tie.MeasureT-loop
+μ-loop s from rows names count cells₀ base at₀ cells at = length s - at
+
+loop-holds : tie.Need-loop-holds Inv-loop μ-loop
+loop-holds c = (refl, left-all _ _ _ _ _ (c .before .before .before .before .pre .1 .0 .0) (c .before .before .before .before .pre .1 .0 .1))
+
+pair-at-requires : tie.Need-pair-at-requires Inv-loop μ-loop
+pair-at-requires c κs = omega (arith, c .before .before .before .before .before .before .pre, c .before .loop .inv .0, c .before .loop .inv .1 .inside)
+
+enum-known-end : tie.Need-enum-known-end Inv-loop μ-loop
+enum-known-end c = search needs
+
+next-after-requires : tie.Need-next-after-requires Inv-loop μ-loop
+next-after-requires c κs = search needs
+
+enum-known-next : tie.Need-enum-known-next Inv-loop μ-loop
+enum-known-next c = search needs
+
+loop-less : tie.Need-loop-less Inv-loop μ-loop
+loop-less c = omega (arith, more-place _ _ _ _ _ _ _ _ (c .before .before .before .before .before .before .before .before .before .pair-at .ensures) (c .before .before .before .before .before .before .before .before .before .before .before .loop .inv .1) _ (c .before .before .before .before .before .end .given .1) _ (c .before .before .before .next-after .ensures) _ (c .before .next .given .1))
+
+loop-again : tie.Need-loop-again Inv-loop μ-loop
+loop-again c = (c .before .before .before .before .before .before .before .before .before .pair-at .kept .1 .1 .1 .1 .1 .0 ∙ c .before .before .before .before .before .before .before .before .before .before .before .loop .inv .0, turn-more _ _ _ _ _ _ _ _ (c .before .before .before .before .before .before .before .before .before .pair-at .ensures) (c .before .before .before .before .before .before .before .before .before .before .before .loop .inv .1) _ (c .before .before .before .before .before .end .given .1) _ (c .before .before .before .next-after .ensures) _ (c .before .next .given .1))
+
+enum-known-last : tie.Need-enum-known-last Inv-loop μ-loop
+enum-known-last c = search needs
+
+close-at-requires : tie.Need-close-at-requires Inv-loop μ-loop
+close-at-requires c κs = omega (arith, c .before .before .before .before .before .before .before .before .before .before .before .before .before .before .before .before .before .pre, c .before .before .before .before .before .before .before .before .before .before .pair-at .kept .1 .1 .1 .1 .1 .0, c .before .before .before .before .before .before .before .before .before .before .before .before .loop .inv .0, ends-place _ _ _ _ _ _ _ _ (c .before .before .before .before .before .before .before .before .before .before .pair-at .ensures) (c .before .before .before .before .before .before .before .before .before .before .before .before .loop .inv .1) _ (c .before .before .before .before .before .before .end .given .1) _ (c .before .before .before .before .next-after .ensures) _ (c .before .before .last .given .1))
+
+same-length : tie.Need-same-length Inv-loop μ-loop
+same-length c = c .before .before .before .before .before .before .before .before .before .before .before .pair-at .kept .1 .1 .1 .1 .1 .0 ∙ c .before .before .before .before .before .before .before .before .before .before .before .before .before .loop .inv .0
+
+returns : tie.Need-returns Inv-loop μ-loop
+returns c = turn-ends _ _ _ _ _ _ _ _ (c .before .before .before .before .before .before .before .before .before .before .before .pair-at .ensures) (c .before .before .before .before .before .before .before .before .before .before .before .before .before .loop .inv .1) _ (c .before .before .before .before .before .before .before .end .given .1) _ (c .before .before .before .before .before .next-after .ensures) _ _ (c .before .before .before .last .given .1) (c .close-at .ensures)
+
+enum-known-place : tie.Need-enum-known-place Inv-loop μ-loop
+enum-known-place c = search needs
+
+same-length-2 : tie.Need-same-length-2 Inv-loop μ-loop
+same-length-2 c = c .before .before .before .before .before .before .before .before .before .pair-at .kept .1 .1 .1 .1 .1 .0 ∙ c .before .before .before .before .before .before .before .before .before .before .before .loop .inv .0
+
+returns-2 : tie.Need-returns-2 Inv-loop μ-loop
+returns-2 c = turn-neither _ _ _ _ _ _ _ _ (c .before .before .before .before .before .before .before .before .before .pair-at .ensures) (c .before .before .before .before .before .before .before .before .before .before .before .loop .inv .1) _ (c .before .before .before .before .before .end .given .1) _ (c .before .before .before .next-after .ensures) _ (c .before .place .given .1)
+
+enum-known-kind : tie.Need-enum-known-kind Inv-loop μ-loop
+enum-known-kind c = search needs
+
+same-length-3 : tie.Need-same-length-3 Inv-loop μ-loop
+same-length-3 c = c .before .before .before .before .before .pair-at .kept .1 .1 .1 .1 .1 .0 ∙ c .before .before .before .before .before .before .before .loop .inv .0
+
+returns-3 : tie.Need-returns-3 Inv-loop μ-loop
+returns-3 c = turn-fault _ _ _ _ _ _ _ _ (c .before .before .before .before .before .pair-at .ensures) (c .before .before .before .before .before .before .before .loop .inv .1) _ _ (c .before .kind .given .1)
+
+pub read-pairs-spec : {M : Type 1} → statement M
+read-pairs-spec =
+    tie.close
+    (tie.spec
+    Inv-loop
+    μ-loop
+    loop-holds
+    pair-at-requires
+    enum-known-end
+    next-after-requires
+    enum-known-next
+    loop-less
+    loop-again
+    enum-known-last
+    close-at-requires
+    same-length
+    returns
+    enum-known-place
+    same-length-2
+    returns-2
+    enum-known-kind
+    same-length-3
+    returns-3)

@@ -1,0 +1,219 @@
+// A record of a table, read once: the places of its values go into cells that the caller lends, two
+// numbers a field, and the answer is the place behind its closing brace or the record's first fault.
+ghost use mathlib.Core.Path.{_≡_};
+ghost use Prim.Native.Nat.{_+_, _*_, _^_, _≤_, _<_};
+ghost use lib.ListN.{length};
+ghost use Rattle.table_fields.specs.Flat.{fieldsFrom, nullableAt};
+ghost use Rattle.table_value.specs.Value.{valueAt};
+ghost use Rattle.table_record.specs.Record.{filled, stored, cleared, storedValue, pairAt, pairsFrom, lacks, isMissing, closedAt, hasRoom, recordAt};
+use json_bytes::Reading;
+use table_fields::field_type;
+use table_fields::is_nullable;
+use table_name::NameRead;
+use table_name::Next;
+use table_name::colon_at;
+use table_name::first_in;
+use table_name::name_at;
+use table_name::next_after;
+use table_value::ValueRead;
+use table_value::value_at;
+
+// Field k's value stands from start to end; the end is 0 for a null.
+fn store(cells: &mut [u32], base: usize, k: usize, start: usize, end: usize)
+    requires { ⌜ (base + 2 * k + 1 < length (now cells)) × ((start < 2 ^ 32) × (end < 2 ^ 32)) ⌝ }
+    ensures { λ _. ⌜ now (cells .exit) ≡ stored (now (cells .entry)) base k start end ⌝ }
+{
+    let at = base + 2 * k;
+    cells[at] = start as u32;
+    cells[at + 1] = end as u32;
+}
+
+// The value that begins at start, in field k of type ty.
+fn store_value(s: &[u8], start: usize, ty: u32, cells: &mut [u32], base: usize, k: usize) -> Reading
+    requires { ⌜ (length (now s) < 2 ^ 32) × ((start ≤ length (now s)) × (base + 2 * k + 1 < length (now cells))) ⌝ }
+    ensures { λ r. ⌜ filled (now (cells .exit)) r ≡ storedValue (now (cells .entry)) base k start (valueAt (now (s .entry)) start ty) ⌝ }
+{
+    match value_at(s, start, ty) {
+        ValueRead::Held { end } => {
+            store(cells, base, k, start, end);
+            Reading::Whole { end }
+        }
+        ValueRead::Null { end } => {
+            store(cells, base, k, start, 0);
+            Reading::Whole { end }
+        }
+        ValueRead::Bad { kind, place } => Reading::Fault { kind, place },
+    }
+}
+
+// The name at `at` and its value. A name that stands a second time in its record is 14.
+fn pair_at(
+    s: &[u8],
+    at: usize,
+    rows: &[u32],
+    names: &[u8],
+    count: usize,
+    cells: &mut [u32],
+    base: usize,
+) -> Reading
+    requires { ⌜ (length (now s) < 2 ^ 32) × ((at ≤ length (now s)) × (base + 2 * count ≤ length (now cells))) ⌝ }
+    ensures { λ r. ⌜ filled (now (cells .exit)) r ≡ pairAt (fieldsFrom (now (rows .entry)) (now (names .entry)) count 0) (now (s .entry)) at (now (cells .entry)) base ⌝ }
+{
+    match name_at(s, at, rows, names, count) {
+        NameRead::Known { index, end } => {
+            if 0 < cells[base + 2 * index] {
+                return Reading::Fault {
+                    kind: 14,
+                    place: at,
+                };
+            }
+            match colon_at(s, end) {
+                Reading::Whole { end: start } => {
+                    store_value(s, start, field_type(rows, index), cells, base, index)
+                }
+                Reading::Fault { kind, place } => Reading::Fault { kind, place },
+            }
+        }
+        NameRead::Unknown { kind, place } => Reading::Fault { kind, place },
+    }
+}
+
+// Whether field k must hold a value and does not.
+fn is_lacking(rows: &[u32], k: usize, cells: &[u32], base: usize) -> bool
+    requires { ⌜ base + 2 * k + 1 < length (now cells) ⌝ }
+    ensures { λ r. ⌜ r ≡ lacks (nullableAt (now (rows .entry)) k) (now (cells .entry)) base k ⌝ }
+{
+    if is_nullable(rows, k) {
+        return false;
+    }
+    cells[base + 2 * k + 1] == 0
+}
+
+// Whether one of the fields does.
+fn is_missing(rows: &[u32], names: &[u8], count: usize, cells: &[u32], base: usize) -> bool
+    requires { ⌜ base + 2 * count ≤ length (now cells) ⌝ }
+    ensures { λ r. ⌜ r ≡ isMissing (fieldsFrom (now (rows .entry)) (now (names .entry)) count 0) (now (cells .entry)) base 0 ⌝ }
+{
+    let mut k = 0;
+    while k < count {
+        if is_lacking(rows, k, cells, base) {
+            return true;
+        }
+        k += 1;
+    }
+    false
+}
+
+// The record's closing brace at `at`: 19 there where a field that must hold a value does not.
+fn close_at(
+    at: usize,
+    rows: &[u32],
+    names: &[u8],
+    count: usize,
+    cells: &[u32],
+    base: usize,
+) -> Reading
+    requires { ⌜ (at < 2 ^ 63) × (base + 2 * count ≤ length (now cells)) ⌝ }
+    ensures { λ r. ⌜ r ≡ closedAt (fieldsFrom (now (rows .entry)) (now (names .entry)) count 0) (now (cells .entry)) base at ⌝ }
+{
+    if is_missing(rows, names, count, cells, base) {
+        return Reading::Fault {
+            kind: 19,
+            place: at,
+        };
+    }
+    Reading::Whole { end: at + 1 }
+}
+
+// The names and values from `from` on, up to the closing brace.
+fn read_pairs(
+    s: &[u8],
+    from: usize,
+    rows: &[u32],
+    names: &[u8],
+    count: usize,
+    cells: &mut [u32],
+    base: usize,
+) -> Reading
+    requires { ⌜ (length (now s) < 2 ^ 32) × (((0 < from) × (from ≤ length (now s))) × (base + 2 * count ≤ length (now cells))) ⌝ }
+    ensures { λ r. ⌜ filled (now (cells .exit)) r ≡ pairsFrom (length (now (s .entry))) (fieldsFrom (now (rows .entry)) (now (names .entry)) count 0) (now (s .entry)) from (now (cells .entry)) base ⌝ }
+{
+    let mut at = from;
+    loop {
+        match pair_at(s, at, rows, names, count, cells, base) {
+            Reading::Whole { end } => match next_after(s, end, b'}') {
+                Next::More { at: next } => {
+                    at = next;
+                }
+                Next::Ends { at: last } => {
+                    return close_at(last, rows, names, count, cells, base);
+                }
+                Next::Neither { at: place } => {
+                    return Reading::Fault { kind: 11, place };
+                }
+            },
+            Reading::Fault { kind, place } => {
+                return Reading::Fault { kind, place };
+            }
+        }
+    }
+}
+
+// Makes n cells from base on 0.
+fn clear(cells: &mut [u32], base: usize, n: usize)
+    requires { ⌜ base + n ≤ length (now cells) ⌝ }
+    ensures { λ _. ⌜ now (cells .exit) ≡ cleared (now (cells .entry)) base n ⌝ }
+{
+    let mut i = 0;
+    while i < n {
+        cells[base + i] = 0;
+        i += 1;
+    }
+}
+
+// Whether the record's cells fit into the lent ones, and the file's places into a cell.
+fn has_room(s: &[u8], cells: &[u32], base: usize, count: usize) -> bool
+    ensures { λ r. ⌜ r ≡ hasRoom (now (s .entry)) (now (cells .entry)) base count ⌝ }
+{
+    if 4_294_967_295 < s.len() {
+        return false;
+    }
+    if 64 < count {
+        return false;
+    }
+    if cells.len() < 2 * count {
+        return false;
+    }
+    if cells.len() - 2 * count < base {
+        return false;
+    }
+    true
+}
+
+// The record whose opening brace stands at `at`, with the `count` fields that rows and names
+// describe; its cells start at base.
+pub fn read_record(
+    s: &[u8],
+    at: usize,
+    rows: &[u32],
+    names: &[u8],
+    count: usize,
+    cells: &mut [u32],
+    base: usize,
+) -> Reading
+    ensures { λ r. ⌜ r ≡ recordAt (fieldsFrom (now (rows .entry)) (now (names .entry)) count 0) (now (s .entry)) at (now (cells .entry)) base .outcome ⌝ }
+    ensures { λ _. ⌜ now (cells .exit) ≡ recordAt (fieldsFrom (now (rows .entry)) (now (names .entry)) count 0) (now (s .entry)) at (now (cells .entry)) base .cells ⌝ }
+{
+    if !has_room(s, cells, base, count) {
+        return Reading::Fault {
+            kind: 99,
+            place: at,
+        };
+    }
+    clear(cells, base, 2 * count);
+    match first_in(s, at, b'}') {
+        Next::More { at: first } => read_pairs(s, first, rows, names, count, cells, base),
+        Next::Ends { at: last } => close_at(last, rows, names, count, cells, base),
+        Next::Neither { at: place } => Reading::Fault { kind: 11, place },
+    }
+}

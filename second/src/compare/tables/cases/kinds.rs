@@ -1,0 +1,193 @@
+//! Each kind of fault at the first, a middle and the last record and field,
+//! and each field against every JSON kind.
+
+use super::draft::{closing, unclosed, Draft};
+use super::values::{good_value, may_be_empty, VALUES};
+use super::{joined, record_places, tables, Cases};
+use crate::fields::{fields_of, Field, FIELDS};
+
+pub(super) fn add(cases: &mut Cases) {
+    for field in &FIELDS {
+        for value in VALUES {
+            add_value_in_field(cases, field, value);
+        }
+    }
+    for table in tables() {
+        for at in 0..record_places(table) {
+            add_values_at_places(cases, table, at);
+            add_names_at_places(cases, table, at);
+            add_missing_values(cases, table, at);
+        }
+        add_other_elements_at_places(cases, table);
+        add_two_faults(cases, table);
+    }
+}
+
+/// The field is the last of few, or one of all.
+fn add_value_in_field(cases: &mut Cases, field: &Field, value: &[u8]) {
+    let number = cases.random.below(50);
+    let base = match cases.random.below(4) {
+        0 => Draft::full(field.table, number),
+        _ => Draft::least(field.table, number),
+    };
+    cases.somewhere(field.table, &base.with_value(field.name, value));
+}
+
+/// Values that give kinds 10, 11 and 15 to 19 in some field.
+const SPOILT: [&[u8]; 32] = [
+    b"\"A\xFF\"",
+    b"\"\xC3\"",
+    b"\"\xED\xA0\x80\"",
+    b"\"\\q\"",
+    b"\"A\x1F\"",
+    b"\"A",
+    b"tru",
+    b"-",
+    b"1.",
+    b"",
+    b"x",
+    b"[",
+    b"{",
+    b"true",
+    b"1",
+    b"0.5",
+    b"\"A\"",
+    b"\"\\u0000\"",
+    b"\" A\"",
+    b"\"A  B\"",
+    b"\"A\\n\"",
+    b"\"\\uD800\"",
+    b"\"\xC3\xA9\"",
+    b"\"2016-02-30\"",
+    b"\"2016-01-31\"",
+    b"1e16",
+    b"1e-16",
+    b"1000000000000000",
+    b"999999999999999e1",
+    b"null",
+    b"\"\"",
+    b"0",
+];
+
+fn add_values_at_places(cases: &mut Cases, table: usize, at: usize) {
+    let full = Draft::full(table, at);
+    for place in full.places() {
+        for value in SPOILT {
+            let mut draft = full.clone();
+            draft.members[place].value = value.to_vec();
+            cases.among_others(table, &draft, at);
+        }
+    }
+}
+
+/// Names that give kinds 10, 11, 13 and 14, and no name at all.
+fn add_names_at_places(cases: &mut Cases, table: usize, at: usize) {
+    let full = Draft::full(table, at);
+    for place in full.places() {
+        let right = &full.members[place].name;
+        let inner = &right[1..right.len() - 1];
+        let names: [Vec<u8>; 12] = [
+            joined(&[b"\"", inner, b"\xFF\""]),
+            joined(&[b"\"\xE2\x82", inner, b"\""]),
+            joined(&[b"\"", inner, b"\\x\""]),
+            joined(&[b"\"", inner, b"\n\""]),
+            joined(&[b"\"", inner, b"x\""]),
+            right.to_ascii_lowercase(),
+            full.members[0].name.clone(),
+            full.members[full.members.len() - 1].name.clone(),
+            inner.to_vec(),
+            b"\"\"".to_vec(),
+            b"null".to_vec(),
+            b"".to_vec(),
+        ];
+        for name in &names {
+            cases.among_others(table, &full.with_name(place, name), at);
+            cases.among_others(table, &full.with_member(place, name, b"null"), at);
+        }
+    }
+}
+
+/// Each field that can't be null: absent, null or empty, alone or with all the
+/// others of its kind.
+fn add_missing_values(cases: &mut Cases, table: usize, at: usize) {
+    let least = Draft::least(table, at);
+    let full = Draft::full(table, at);
+    for field in fields_of(table).filter(|field| !field.nullable) {
+        for draft in [&least, &full] {
+            cases.among_others(table, &draft.without(field.name), at);
+            cases.among_others(table, &draft.with_value(field.name, b"null"), at);
+            if may_be_empty(field.kind) {
+                cases.among_others(table, &draft.with_value(field.name, b"\"\""), at);
+            }
+        }
+        add_alone(cases, field, at);
+    }
+    cases.among_others(table, &Draft::default(), at);
+    cases.among_others(table, &full.all_null(), at);
+}
+
+/// The field is the only one that is there, or that isn't null.
+fn add_alone(cases: &mut Cases, field: &Field, at: usize) {
+    let value = good_value(field.kind, at);
+    cases.among_others(field.table, &Draft::default().with_value(field.name, value), at);
+    let nulls = Draft::least(field.table, at).all_null();
+    cases.among_others(field.table, &nulls.with_value(field.name, value), at);
+}
+
+/// An element that is no object, first, in the middle and last; a singleton
+/// takes no element at all.
+fn add_other_elements_at_places(cases: &mut Cases, table: usize) {
+    let others: [&[u8]; 12] = [
+        b"[]",
+        b"[",
+        b"1",
+        b"-1.5e3",
+        b"\"A\"",
+        b"\"\"",
+        b"true",
+        b"false",
+        b"null",
+        b"x",
+        b"\"\xFF\"",
+        b"nul",
+    ];
+    let record = Draft::least(table, 0).text();
+    for other in others {
+        for at in 0..3 {
+            let mut elements: [&[u8]; 3] = [&record; 3];
+            elements[at] = other;
+            cases.file(table, &joined(&[b"[", &elements.join(&b","[..]), b"]"]));
+        }
+    }
+}
+
+/// The first of two faults is the mark, also if the second one is of a lower
+/// kind or in an earlier field of the table.
+fn add_two_faults(cases: &mut Cases, table: usize) {
+    for _ in 0..60 {
+        let mut drafts: Vec<Draft> =
+            (0..record_places(table)).map(|number| Draft::full(table, number)).collect();
+        for _ in 0..2 {
+            let at = cases.random.below(drafts.len());
+            let place = cases.random.below(drafts[at].members.len());
+            drafts[at].members[place].value = cases.random.pick(&SPOILT).to_vec();
+        }
+        cases.records(table, &drafts);
+    }
+    add_faults_across_the_end(cases, table);
+}
+
+/// A missing value is a fault of the closing brace, so what stands before it
+/// comes first and what follows it comes later.
+fn add_faults_across_the_end(cases: &mut Cases, table: usize) {
+    let Some(field) = fields_of(table).find(|field| !field.nullable) else {
+        return;
+    };
+    let lacking = unclosed(table, &Draft::full(table, 0).without(field.name));
+    for more in [&b"x"[..], b",", b" ]", b"[]"] {
+        cases.file(table, &joined(&[&lacking, closing(table), more]));
+    }
+    for inner in [&b","[..], b" ", b"x", b",\"x\"", b",\"\xFF\"", b",\"\":1", b"]"] {
+        cases.file(table, &joined(&[&lacking, inner, closing(table)]));
+    }
+}
