@@ -11,6 +11,7 @@ use native.Mathlib.Omega.{arith}
 use borrow.Author.Tests.{ltb-true, ltb-false, not-false}
 use Rattle.json_number.specs.declared.Sign.{Sign}
 use Rattle.json_number.specs.declared.Sign.the-variants.{Zero, Above, Below}
+use Rattle.rule_cells.proofs.First.{first-is-none}
 use Rattle.rule_cells.specs.Cells.{Table, table, isGiven, signIn, firstFrom, firstOf}
 use Rattle.rule_hours.specs.Hours.{fieldFrom, firstField, anyField, belowZero, aboveZero, isBelow, isAbove, isNull, breaks, noneBelow, someAbove, together}
 use Rattle.rule_hours.specs.declared.Shape.the-variants.{SomeBelow, NoneAbove, Mixed}
@@ -97,27 +98,6 @@ module _ (test : ℕ → Bool) (from to : ℕ) where
         | inr q ↦ q
       ]
 
--- no record breaks a rule exactly if the first that does is none
-module _ (broken : ℕ → Bool) where
-  none-from : (n i : ℕ) → firstFrom broken n i ≡ 0 → (r : ℕ) → i ≤ r → r < i + n → broken r ≡ false
-  unfolding firstFrom
-  none-from zero i z r l m = absurd (omega arith)
-  none-from (suc n) i z r l m =
-      elim (told (broken i)) [
-        | inl e ↦ absurd (let q = rw (e, firstFrom) at z in omega arith)
-        | inr e ↦ elim (eq-or-lt-of-le l) [ inl p ↦ rw p at e | inr p ↦ none-from n (suc i) (rw (e, firstFrom) at z) r p (omega arith) ]
-      ]
-
-  from-none : (n i : ℕ) → ((r : ℕ) → i ≤ r → r < i + n → broken r ≡ false) → firstFrom broken n i ≡ 0
-  unfolding firstFrom
-  from-none zero i h = refl
-  from-none (suc n) i h =
-      rw (h i (omega arith) (omega arith), firstFrom) (from-none n (suc i) (λ r l m. h r (omega arith) (omega arith)))
-
-  pub none-first : (n : ℕ) → (firstOf broken n ≡ 0) ↔ ((r : ℕ) → r < n → broken r ≡ false)
-  unfolding firstOf
-  none-first n = (λ z r m. none-from n 0 z r (omega arith) (omega arith), λ h. from-none n 0 (λ r l m. h r (omega arith)))
-
 -- ---- what the rules come to
 other-than-below : (g : Sign) → (g ≡ Below → ⊥) → belowZero g ≡ false
 other-than-below Below h = absurd (h refl)
@@ -134,7 +114,7 @@ module _ (t : Table) (from to : ℕ) where
   pub none-below-says : (noneBelow t from to ≡ 0) ↔ ((r k : ℕ) → r < t .records → from ≤ k → k < to → signIn t r k ≡ Below → ⊥)
   unfolding noneBelow breaks isBelow
   none-below-says =
-      let none = none-first (breaks SomeBelow t from to) (t .records) in (
+      let none = first-is-none (breaks SomeBelow t from to) (t .records) in (
         λ z r k m a b e. clash (isBelow t r k) (ap belowZero e) (none-shows (isBelow t r) from to (none .0 z r m) k a b),
         λ h. none .1 (λ r m. shown-none (isBelow t r) from to (λ k a b. other-than-below (signIn t r k) (h r k m a b))),
       )
@@ -143,7 +123,7 @@ module _ (t : Table) (from to : ℕ) where
   pub some-above-says : (someAbove t from to ≡ 0) ↔ ((r : ℕ) → r < t .records → (k : ℕ) × (from ≤ k) × (k < to) × (signIn t r k ≡ Above))
   unfolding someAbove breaks isAbove
   some-above-says =
-      let none = none-first (breaks NoneAbove t from to) (t .records) in (
+      let none = first-is-none (breaks NoneAbove t from to) (t .records) in (
         λ z r m. (let w = any-shows (isAbove t r) from to (not-false _ (none .0 z r m)) in (w .0, w .1, w .2, is-above _ (w .3))),
         λ h. none .1 (λ r m. (let w = h r m in ap not (shown-any (isAbove t r) from to (w .0) (w .1) (w .2) (ap aboveZero (w .3))))),
       )
@@ -179,7 +159,7 @@ module _ (cells : List ℕ) (width records from to : ℕ) where
   pub together-says : (together cells width records from to ≡ 0) ↔ ((r j k : ℕ) → r < records → from ≤ j → j < to → from ≤ k → k < to → isGiven cells width r j ≡ isGiven cells width r k)
   unfolding together breaks isNull mixed
   together-says =
-      let none = none-first (breaks Mixed (table [] cells width records) from to) records in (
+      let none = first-is-none (breaks Mixed (table [] cells width records) from to) records in (
         λ z r j k m. one-kind (isGiven cells width r) from to (none .0 z r m) j k,
         λ h. none .1 (λ r m. alike (isGiven cells width r) from to (λ j k. h r j k m)),
       )

@@ -21,7 +21,7 @@ use Rattle.rule_cells.specs.Cells.{Table, textOf, sameText, integerIn, dateIn, 
 use Rattle.rule_key.specs.declared.Key.{Key}
 use Rattle.rule_key.specs.Key.{sameInteger, sameDate, sameField, sameKey, earliest, repeats, keyRule}
 use Rattle.rule_key.proofs.Compare.{rule-is}
-use Rattle.rule_key.proofs.First.{First, first-found, found-first, first-none, none-first}
+use Rattle.rule_cells.proofs.First.{First, first-found, found-first, first-none, none-first}
 
 -- ---- One key, both ways
 -- two tests of which each passes where the other does are one

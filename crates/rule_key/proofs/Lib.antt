@@ -1,4 +1,3 @@
 pub mod Cases
 pub mod Compare
-pub mod First
 pub mod Laws

@@ -5,14 +5,13 @@ use Prim.Native.String.{String}
 use mathlib.Core.Path.{_≡_, refl}
 use mathlib.Core.List.{List, [], _∷_, map}
 use Rattle.json_bytes.specs.Reads.{within, leading, isSpace, spacesEnd, wordAt, literalAt}
-use Rattle.json_bytes.specs.declared.Reading.{Reading}
 use Rattle.json_bytes.specs.declared.Reading.the-variants.{Whole, Fault}
 use Rattle.json_chars.specs.Step.{letterEscape, hexDigit, digitAt, unitAt, unitOf, escapedAt, isPair, joined, escapeAt, stepAt}
 use Rattle.json_chars.specs.Chars.{charsFrom, charsAt}
 use Rattle.json_text.specs.Text.{textFrom, textAt, barred, isWhite, wrongSpace, outsideID, ruleOf, none, wrongHere, firstOf, closesAt, wrongFrom, wrongAt, textRead}
 use Rattle.json_same.specs.Same.{casedAs, sameList, sameAs}
 use Rattle.table_fields.specs.Ascii.{codes}
-use Rattle.table_fields.specs.Fields.{Field, tables, fieldsOf}
+use Rattle.table_fields.specs.Fields.{tables, fieldsOf}
 use Rattle.table_value.specs.Value.{textType, textHeld, stringIn, stringValue, literalIn, literalValue, startsNumber, opens, valueAt}
 use Rattle.table_name.specs.Name.{indexOf, namedAt, nameAt, colonAt, firstIn, nextAfter}
 use Rattle.table_record.specs.Record.{

@@ -2,13 +2,13 @@
 -- Assumes nothing.
 use Prim.Native.Nat.{ℕ, zero, suc, _+_, _-_, _*_, _^_, _≤_, _<_}
 use mathlib.Core.Path.{_≡_, refl, sym, ap, _∙_}
-use mathlib.Core.Bool.{Bool, true, false, cond, _&&_, _||_}
-use mathlib.Core.List.{List, [], _∷_, map}
+use mathlib.Core.Bool.{Bool, true, false}
+use mathlib.Core.List.{List, []}
 use native.Mathlib.Nat.{zero-add}
 use native.Mathlib.Numerals.{add-one}
 use native.Mathlib.Omega.{arith}
 use borrow.Author.Tests.{lt-ltb, le-ltb, le-leb, lt-leb, leb-true, ltb-true}
-use lib.ListN.{length, getD, set, length-set, List·getD-map}
+use lib.ListN.{length, set, List·getD-map}
 use lib.Dec.{ltb, leb}
 use Rattle.json_bytes.specs.declared.Reading.{Reading}
 use Rattle.json_bytes.specs.declared.Reading.the-variants.{Whole, Fault}
@@ -55,15 +55,6 @@ module _ (cells : List ℕ) (base : ℕ) where
   unfolding cleared
   cleared-more then i e = rw (add-one i, e)
 
-  pub cleared-length : (n : ℕ) → length (cleared cells base n) ≡ length cells
-  unfolding cleared
-  cleared-length zero = refl
-  cleared-length (suc n) = length-set (cleared cells base n) (base + n) 0 ∙ cleared-length n
-
-  pub stored-length : (k start end : ℕ) → length (stored cells base k start end) ≡ length cells
-  unfolding stored
-  stored-length k start end = simp length-set
-
 -- ---- the fields
 module _ (rows names : List ℕ) (count k : ℕ) where
   noField : Field
@@ -107,18 +98,13 @@ module _ (s cells : List ℕ) (base count : ℕ) where
   unfolding hasRoom
   room-short a b c = rw (lt-ltb (length s) (2 ^ 32) a, le-leb count 64 b, lt-leb (base + 2 * count) (length cells) c)
 
-  module _ (is : hasRoom s cells base count ≡ true) where
-    pub room-places : length s < 2 ^ 32
-    unfolding hasRoom
-    room-places = ltb-true (length s) (2 ^ 32) (both-left (ltb (length s) (2 ^ 32)) _ is)
-
-    pub room-count : count ≤ 64
-    unfolding hasRoom
-    room-count = leb-true count 64 (both-left (leb count 64) _ (both-right (ltb (length s) (2 ^ 32)) _ is))
-
-    pub room-cells : base + 2 * count ≤ length cells
-    unfolding hasRoom
-    room-cells = leb-true (base + 2 * count) (length cells) (both-right (leb count 64) _ (both-right (ltb (length s) (2 ^ 32)) _ is))
+  pub room-all : hasRoom s cells base count ≡ true → (length s < 2 ^ 32) × ((count ≤ 64) × (base + 2 * count ≤ length cells))
+  unfolding hasRoom
+  room-all e =
+      let h = both-right (ltb (length s) (2 ^ 32)) _ e in (
+        ltb-true (length s) (2 ^ 32) (both-left (ltb (length s) (2 ^ 32)) _ e),
+        (leb-true count 64 (both-left (leb count 64) _ h), leb-true (base + 2 * count) (length cells) (both-right (leb count 64) _ h)),
+      )
 
 -- ---- a value
 module _ (s : List ℕ) (start ty : ℕ) (v : ValueRead) (isValue : v ≡ valueAt s start ty) where

@@ -2,7 +2,7 @@
 -- The places go into cells, two numbers a field: where the value starts and where it ends; the end is 0 for a null, and
 -- both are 0 for a field that is absent. The record's cells start at a base, in the order of the table's fields.
 use Prim.Native.Nat.{ℕ, zero, suc, _+_, _*_, _^_}
-use mathlib.Core.Bool.{Bool, true, false, cond, _&&_, _||_}
+use mathlib.Core.Bool.{Bool, false, cond, _&&_, _||_}
 use mathlib.Core.List.{List, [], _∷_, map}
 use lib.ListN.{length, getD, set}
 use lib.Dec.{ltb, leb, eqb}

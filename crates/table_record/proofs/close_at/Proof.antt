@@ -1,6 +1,6 @@
 -- `table_record::close_at` meets its contract: whether a field is missing decides the answer.
 use borrow.Author.Needs.{needs}
-use mathlib.Core.Path.{_≡_, refl, sym, ap, _∙_}
+use mathlib.Core.Path.{sym}
 use Rattle.table_record.proofs.Laws.{close-missing, close-whole}
 use Rattle.table_record.proofs.close_at.Statement.{statement}
 use Rattle.table_record.proofs.close_at.Tie as tie

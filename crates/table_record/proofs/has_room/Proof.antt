@@ -1,6 +1,6 @@
 -- `table_record::has_room` meets its contract: the tests that led to each answer decide the definition.
 use borrow.Author.Needs.{needs}
-use mathlib.Core.Path.{_≡_, refl, sym, ap, _∙_}
+use mathlib.Core.Path.{sym}
 use native.Mathlib.Omega.{arith}
 use Rattle.table_record.proofs.Laws.{room-is, room-long, room-many, room-short}
 use Rattle.table_record.proofs.has_room.Statement.{statement}

@@ -1,7 +1,6 @@
 -- `table_record::is_lacking` meets its contract: the tests that led to each answer decide the definition.
 use borrow.Author.Needs.{needs}
-use mathlib.Core.Path.{_≡_, refl, sym, ap, _∙_}
-use borrow.Author.Tests.{eq-eqb, ne-eqb, lt-ltb, le-ltb, le-leb, lt-leb}
+use mathlib.Core.Path.{sym, _∙_}
 use Rattle.table_record.specs.Record.{lacks, endCell}
 use Rattle.table_record.proofs.is_lacking.Statement.{statement}
 use Rattle.table_record.proofs.is_lacking.Tie as tie

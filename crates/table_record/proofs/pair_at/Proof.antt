@@ -1,6 +1,6 @@
 -- `table_record::pair_at` meets its contract: the name, the colon behind it and the value are read in turn.
 use borrow.Author.Needs.{needs}
-use mathlib.Core.Path.{_≡_, refl, sym, ap, _∙_}
+use mathlib.Core.Path.{sym, _∙_}
 use native.Mathlib.Omega.{arith}
 use denote.Ref.{now}
 use Prim.Native.Nat.{_≤_, _<_}
@@ -38,7 +38,9 @@ slice-read-if1 c = omega (arith, known (c .before), c .before .before .before .b
 
 returns : tie.Need-returns
 unfolding startCell
-returns c = pair-twice _ _ _ _ (c .before .before .before .before .before .name-at .ensures) _ _ _ _ (c .before .before .before .index .given .1) (c .if1 .taken)
+returns c =
+    let b = c .before .before .before in
+    pair-twice _ _ _ _ (b .before .before .name-at .ensures) _ _ _ _ (b .index .given .1) (c .if1 .taken)
 
 colon-at-requires : tie.Need-colon-at-requires
 colon-at-requires c κs = search needs
@@ -50,7 +52,9 @@ field-type-requires : tie.Need-field-type-requires
 field-type-requires c κs = search needs
 
 store-value-requires : tie.Need-store-value-requires
-store-value-requires c κs = omega (arith, known (c .before .before .before .before .before .before .before .before), (rw (c .before .before .before .start .given .1) at (colon-told _ _ _ (c .before .before .before .before .before .colon-at .ensures) (known (c .before .before .before .before .before .before .before .before) .1))), c .before .before .before .before .before .before .before .before .before .before .before .before .before .before .before .before .pre)
+store-value-requires c κs =
+    let b = c .before .before .before in
+    omega (arith, known (b .before .before .before .before .before), (rw (b .start .given .1) at (colon-told _ _ _ (b .before .before .colon-at .ensures) (known (b .before .before .before .before .before) .1))), b .before .before .before .before .before .before .before .before .before .before .before .before .before .pre)
 
 enum-known-kind : tie.Need-enum-known-kind
 enum-known-kind c = search needs
@@ -63,11 +67,15 @@ same-length c = search needs
 
 returns-2 : tie.Need-returns-2
 unfolding startCell
-returns-2 c = pair-value _ _ _ _ (c .before .before .before .before .before .before .before .before .before .before .before .before .before .before .name-at .ensures) _ _ _ _ (c .before .before .before .before .before .before .before .before .before .before .before .before .index .given .1) (c .before .before .before .before .before .before .before .before .before .if1 .left) _ (c .before .before .before .before .before .before .before .before .colon-at .ensures) _ _ _ (c .before .before .before .before .before .before .start .given .1) (c .before .before .before .before .field-type .ensures ∙ sym (type-told _ _ _ _ (known (c .before .before .before .before .before .before .before .before .before .before .before) .0))) (c .before .before .store-value .ensures)
+returns-2 c =
+    let b = c .before .before .before .before in
+    pair-value _ _ _ _ (b .before .before .before .before .before .before .before .before .before .before .name-at .ensures) _ _ _ _ (b .before .before .before .before .before .before .before .before .index .given .1) (b .before .before .before .before .before .if1 .left) _ (b .before .before .before .before .colon-at .ensures) _ _ _ (b .before .before .start .given .1) (b .field-type .ensures ∙ sym (type-told _ _ _ _ (known (b .before .before .before .before .before .before .before) .0))) (c .before .before .store-value .ensures)
 
 returns-3 : tie.Need-returns-3
 unfolding startCell
-returns-3 c = pair-colon _ _ _ _ (c .before .before .before .before .before .before .before .before .before .name-at .ensures) _ _ _ _ (c .before .before .before .before .before .before .before .index .given .1) (c .before .before .before .before .if1 .left) _ (c .before .before .before .colon-at .ensures) _ _ (c .before .kind .given .1)
+returns-3 c =
+    let b = c .before .before .before in
+    pair-colon _ _ _ _ (b .before .before .before .before .before .before .name-at .ensures) _ _ _ _ (b .before .before .before .before .index .given .1) (b .before .if1 .left) _ (b .colon-at .ensures) _ _ (c .before .kind .given .1)
 
 returns-4 : tie.Need-returns-4
 returns-4 c = pair-unknown _ _ _ _ (c .before .before .before .name-at .ensures) _ _ _ _ (c .before .kind2 .given .1)

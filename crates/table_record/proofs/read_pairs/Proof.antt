@@ -1,9 +1,8 @@
 -- `table_record::read_pairs` meets its contract: what is left to read at the loop's head gives what the whole gives.
 use borrow.Author.Needs.{needs}
-use mathlib.Core.Path.{_≡_, refl, sym, ap, _∙_}
+use mathlib.Core.Path.{_≡_, refl, _∙_}
 use native.Mathlib.Omega.{arith}
-use denote.Ref.{now}
-use Prim.Native.Nat.{_-_, _≤_, _<_}
+use Prim.Native.Nat.{_-_}
 use lib.ListN.{length}
 use Rattle.table_fields.specs.Flat.{fieldsFrom}
 use Rattle.table_record.specs.Record.{pairsFrom}
@@ -18,7 +17,9 @@ abbrev μ-loop : tie.MeasureT-loop
 μ-loop s from rows names count cells₀ base at₀ cells at = length s - at
 
 loop-holds : tie.Need-loop-holds Inv-loop μ-loop
-loop-holds c = (refl, left-all _ _ _ _ _ (c .before .before .before .before .pre .1 .0 .0) (c .before .before .before .before .pre .1 .0 .1))
+loop-holds c =
+    let b = c .before .before .before .before in
+    (refl, left-all _ _ _ _ _ (b .pre .1 .0 .0) (b .pre .1 .0 .1))
 
 pair-at-requires : tie.Need-pair-at-requires Inv-loop μ-loop
 pair-at-requires c κs = omega (arith, c .before .before .before .before .before .before .pre, c .before .loop .inv .0, c .before .loop .inv .1 .inside)
@@ -33,40 +34,58 @@ enum-known-next : tie.Need-enum-known-next Inv-loop μ-loop
 enum-known-next c = search needs
 
 loop-less : tie.Need-loop-less Inv-loop μ-loop
-loop-less c = omega (arith, more-place _ _ _ _ _ _ _ _ (c .before .before .before .before .before .before .before .before .before .pair-at .ensures) (c .before .before .before .before .before .before .before .before .before .before .before .loop .inv .1) _ (c .before .before .before .before .before .end .given .1) _ (c .before .before .before .next-after .ensures) _ (c .before .next .given .1))
+loop-less c =
+    let b = c .before .before .before in
+    omega (arith, more-place _ _ _ _ _ _ _ _ (b .before .before .before .before .before .before .pair-at .ensures) (b .before .before .before .before .before .before .before .before .loop .inv .1) _ (b .before .before .end .given .1) _ (b .next-after .ensures) _ (c .before .next .given .1))
 
 loop-again : tie.Need-loop-again Inv-loop μ-loop
-loop-again c = (c .before .before .before .before .before .before .before .before .before .pair-at .kept .1 .1 .1 .1 .1 .0 ∙ c .before .before .before .before .before .before .before .before .before .before .before .loop .inv .0, turn-more _ _ _ _ _ _ _ _ (c .before .before .before .before .before .before .before .before .before .pair-at .ensures) (c .before .before .before .before .before .before .before .before .before .before .before .loop .inv .1) _ (c .before .before .before .before .before .end .given .1) _ (c .before .before .before .next-after .ensures) _ (c .before .next .given .1))
+loop-again c =
+    let b = c .before .before .before in
+    (b .before .before .before .before .before .before .pair-at .kept .1 .1 .1 .1 .1 .0 ∙ b .before .before .before .before .before .before .before .before .loop .inv .0, turn-more _ _ _ _ _ _ _ _ (b .before .before .before .before .before .before .pair-at .ensures) (b .before .before .before .before .before .before .before .before .loop .inv .1) _ (b .before .before .end .given .1) _ (b .next-after .ensures) _ (c .before .next .given .1))
 
 enum-known-last : tie.Need-enum-known-last Inv-loop μ-loop
 enum-known-last c = search needs
 
 close-at-requires : tie.Need-close-at-requires Inv-loop μ-loop
-close-at-requires c κs = omega (arith, c .before .before .before .before .before .before .before .before .before .before .before .before .before .before .before .before .before .pre, c .before .before .before .before .before .before .before .before .before .before .pair-at .kept .1 .1 .1 .1 .1 .0, c .before .before .before .before .before .before .before .before .before .before .before .before .loop .inv .0, ends-place _ _ _ _ _ _ _ _ (c .before .before .before .before .before .before .before .before .before .before .pair-at .ensures) (c .before .before .before .before .before .before .before .before .before .before .before .before .loop .inv .1) _ (c .before .before .before .before .before .before .end .given .1) _ (c .before .before .before .before .next-after .ensures) _ (c .before .before .last .given .1))
+close-at-requires c κs =
+    let b = c .before .before .before .before in
+    omega (arith, b .before .before .before .before .before .before .before .before .before .before .before .before .before .pre, b .before .before .before .before .before .before .pair-at .kept .1 .1 .1 .1 .1 .0, b .before .before .before .before .before .before .before .before .loop .inv .0, ends-place _ _ _ _ _ _ _ _ (b .before .before .before .before .before .before .pair-at .ensures) (b .before .before .before .before .before .before .before .before .loop .inv .1) _ (b .before .before .end .given .1) _ (b .next-after .ensures) _ (c .before .before .last .given .1))
 
 same-length : tie.Need-same-length Inv-loop μ-loop
-same-length c = c .before .before .before .before .before .before .before .before .before .before .before .pair-at .kept .1 .1 .1 .1 .1 .0 ∙ c .before .before .before .before .before .before .before .before .before .before .before .before .before .loop .inv .0
+same-length c =
+    let b = c .before .before .before .before .before .before .before .before .before .before .before in
+    b .pair-at .kept .1 .1 .1 .1 .1 .0 ∙ b .before .before .loop .inv .0
 
 returns : tie.Need-returns Inv-loop μ-loop
-returns c = turn-ends _ _ _ _ _ _ _ _ (c .before .before .before .before .before .before .before .before .before .before .before .pair-at .ensures) (c .before .before .before .before .before .before .before .before .before .before .before .before .before .loop .inv .1) _ (c .before .before .before .before .before .before .before .end .given .1) _ (c .before .before .before .before .before .next-after .ensures) _ _ (c .before .before .before .last .given .1) (c .close-at .ensures)
+returns c =
+    let b = c .before .before .before in
+    turn-ends _ _ _ _ _ _ _ _ (b .before .before .before .before .before .before .before .before .pair-at .ensures) (b .before .before .before .before .before .before .before .before .before .before .loop .inv .1) _ (b .before .before .before .before .end .given .1) _ (b .before .before .next-after .ensures) _ _ (b .last .given .1) (c .close-at .ensures)
 
 enum-known-place : tie.Need-enum-known-place Inv-loop μ-loop
 enum-known-place c = search needs
 
 same-length-2 : tie.Need-same-length-2 Inv-loop μ-loop
-same-length-2 c = c .before .before .before .before .before .before .before .before .before .pair-at .kept .1 .1 .1 .1 .1 .0 ∙ c .before .before .before .before .before .before .before .before .before .before .before .loop .inv .0
+same-length-2 c =
+    let b = c .before .before .before .before .before .before .before .before .before in
+    b .pair-at .kept .1 .1 .1 .1 .1 .0 ∙ b .before .before .loop .inv .0
 
 returns-2 : tie.Need-returns-2 Inv-loop μ-loop
-returns-2 c = turn-neither _ _ _ _ _ _ _ _ (c .before .before .before .before .before .before .before .before .before .pair-at .ensures) (c .before .before .before .before .before .before .before .before .before .before .before .loop .inv .1) _ (c .before .before .before .before .before .end .given .1) _ (c .before .before .before .next-after .ensures) _ (c .before .place .given .1)
+returns-2 c =
+    let b = c .before .before .before in
+    turn-neither _ _ _ _ _ _ _ _ (b .before .before .before .before .before .before .pair-at .ensures) (b .before .before .before .before .before .before .before .before .loop .inv .1) _ (b .before .before .end .given .1) _ (b .next-after .ensures) _ (c .before .place .given .1)
 
 enum-known-kind : tie.Need-enum-known-kind Inv-loop μ-loop
 enum-known-kind c = search needs
 
 same-length-3 : tie.Need-same-length-3 Inv-loop μ-loop
-same-length-3 c = c .before .before .before .before .before .pair-at .kept .1 .1 .1 .1 .1 .0 ∙ c .before .before .before .before .before .before .before .loop .inv .0
+same-length-3 c =
+    let b = c .before .before .before .before .before in
+    b .pair-at .kept .1 .1 .1 .1 .1 .0 ∙ b .before .before .loop .inv .0
 
 returns-3 : tie.Need-returns-3 Inv-loop μ-loop
-returns-3 c = turn-fault _ _ _ _ _ _ _ _ (c .before .before .before .before .before .pair-at .ensures) (c .before .before .before .before .before .before .before .loop .inv .1) _ _ (c .before .kind .given .1)
+returns-3 c =
+    let b = c .before .before .before .before .before in
+    turn-fault _ _ _ _ _ _ _ _ (b .pair-at .ensures) (b .before .before .loop .inv .1) _ _ (c .before .kind .given .1)
 
 pub read-pairs-spec : {M : Type 1} → statement M
 read-pairs-spec =

@@ -1,6 +1,6 @@
 -- `table_record::store` meets its contract: two stores, one behind the other.
 use borrow.Author.Needs.{needs}
-use mathlib.Core.Path.{_≡_, refl, sym, ap, _∙_}
+use mathlib.Core.Path.{refl}
 use Rattle.table_record.specs.Record.{stored}
 use Rattle.table_record.proofs.store.Statement.{statement}
 use Rattle.table_record.proofs.store.Tie as tie

@@ -3,9 +3,10 @@
 use Prim.Native.Nat.{ℕ, zero, suc, _+_, _≤_, _<_}
 use mathlib.Core.Path.{_≡_, refl, ap}
 use mathlib.Core.Bool.{Bool, true, false}
+use mathlib.Core.Logic.{_↔_}
 use native.Mathlib.Decide.{ℕ-discrete}
 use native.Mathlib.Omega.{arith}
 use Rattle.rule_cells.specs.Cells.{firstFrom, firstOf}
 
 -- of the n records from record i on, record r is the first that breaks
 pub record First (breaks : ℕ → Bool) (n i r : ℕ) : Type 0 where
@@ -102,3 +103,7 @@ module _ (breaks : ℕ → Bool) where
   pub none-first : (n : ℕ) → ((j : ℕ) → j < n → breaks j ≡ false) → firstOf breaks n ≡ 0
   unfolding firstOf
   none-first n h = none-from n 0 (λ j l u. h j (omega arith))
+
+  -- no record breaks exactly if the first that does is none
+  pub first-is-none : (n : ℕ) → (firstOf breaks n ≡ 0) ↔ ((r : ℕ) → r < n → breaks r ≡ false)
+  first-is-none n = (first-none n, none-first n)

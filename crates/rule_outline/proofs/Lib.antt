@@ -1,0 +1,4 @@
+pub mod Parents
+pub mod Laws
+pub mod Rules
+pub mod Cases
