@@ -1,0 +1,270 @@
+-- Where an element stands, one turn of each loop of a file's reading, and each way through the code as an equation.
+-- Assumes nothing.
+use Prim.Native.Nat.{ℕ, zero, suc, _+_, _*_, _≤_, _<_}
+use mathlib.Core.Path.{_≡_, refl, sym, ap, _∙_}
+use mathlib.Core.Bool.{Bool, true, false, cond, _&&_}
+use mathlib.Core.List.{List, [], _∷_}
+use native.Mathlib.Nat.{mul-le-mul}
+use native.Mathlib.Numerals.{add-one}
+use native.Mathlib.Omega.{arith}
+use borrow.Author.Tests.{eq-eqb, ne-eqb, lt-ltb, le-ltb, lt-leb}
+use lib.ListN.{length, getD, drop, drop-of-length-le}
+use lib.Seq.{drop-cons}
+use lib.Dec.{ltb, leb, eqb}
+use Rattle.json_bytes.specs.Reads.{byteAt, spacesEnd, within}
+use Rattle.json_bytes.specs.declared.Reading.{Reading}
+use Rattle.json_bytes.specs.declared.Reading.the-variants.{Whole, Fault}
+use Rattle.json_bytes.proofs.Laws.{by-test}
+use Rattle.json_bytes.proofs.Bounds.{Within}
+use Rattle.json_same.specs.Same.{sameList}
+use Rattle.json_same.proofs.Laws.{same-equal}
+use Rattle.table_fields.specs.Fields.{Field}
+use Rattle.table_fields.specs.Flat.{fieldsFrom}
+use Rattle.table_fields.proofs.Laws.{fields-length}
+use Rattle.table_value.specs.Value.{notObjectAt}
+use Rattle.table_value.proofs.Bounds.{not-object-in}
+use Rattle.table_name.specs.Name.{firstIn, nextAfter}
+use Rattle.table_name.specs.declared.Next.{Next}
+use Rattle.table_name.specs.declared.Next.the-variants.{More, Ends, Neither}
+use Rattle.table_record.specs.Record.{Filled, filled, hasRoom, recordAt}
+use Rattle.table_record.proofs.Bounds.{NextIn, next-in, first-in, record-in}
+use Rattle.table_record.proofs.Laws.{record-none}
+use Rattle.table_file.specs.declared.FileRead.{FileRead}
+use Rattle.table_file.specs.Table.{
+  holds,
+  fault,
+  TableRead,
+  tableRead,
+  endOfFile,
+  singleRead,
+  singleOf,
+  singleAt,
+  elementAt,
+  elementsFrom,
+  elementsOf,
+  arrayAt,
+  tableOf,
+}
+use Rattle.table_file.specs.File.{omitted, typeFile, fileOf}
+
+-- ---- a singleton
+module _ (fields : List Field) (s cells : List ℕ) (at b : ℕ) (isByte : b ≡ byteAt s at) (r : Reading) (x : FileRead) (isRead : x ≡ singleRead s r) where
+  pub single-object : b ≡ 123 → (then : List ℕ) → r ≡ recordAt fields s at cells 0 .outcome → then ≡ recordAt fields s at cells 0 .cells → tableRead then x ≡ singleAt fields s cells at
+  unfolding singleAt singleOf
+  single-object e then isRecord isThen = rw (← isByte, eq-eqb b 123 e, ← isRecord, ← isThen, isRead)
+
+  pub single-other : (b ≡ 123 → ⊥) → r ≡ notObjectAt s at → tableRead cells x ≡ singleAt fields s cells at
+  unfolding singleAt singleOf
+  single-other e isOther = rw (← isByte, ne-eqb b 123 e, ← isOther, isRead)
+
+-- ---- an element
+neither-is : (a : Bool) → (a && false) ≡ false
+neither-is true = refl
+neither-is false = refl
+
+-- a record of more than 64 fields has no room
+room-wide : (s cells : List ℕ) (base count : ℕ) → 64 < count → hasRoom s cells base count ≡ false
+unfolding hasRoom
+room-wide s cells base count l = rw (lt-leb count 64 l) (neither-is (ltb (length s) 4294967296))
+
+-- where a record's cells start is a small number
+pub base-fits : (r count : ℕ) → r < 4096 → count ≤ 64 → r * (2 * count) ≤ 4096 * 128
+base-fits r count l m = mul-le-mul {n₂ = 4096} {m₂ = 128} (omega arith) (omega arith)
+
+module _ (rows names : List ℕ) (count : ℕ) (s : List ℕ) (at : ℕ) (cells : List ℕ) (r b : ℕ) (isByte : b ≡ byteAt s at) where
+  abbrev fields : List Field
+  fields = fieldsFrom rows names count 0
+
+  pub element-other : (b ≡ 123 → ⊥) → (x : Reading) → x ≡ notObjectAt s at → filled cells x ≡ elementAt fields s at cells r
+  unfolding elementAt
+  element-other e x isOther = rw (← isByte, ne-eqb b 123 e, isOther)
+
+  module _ (brace : b ≡ 123) where
+    pub element-many : 4096 ≤ r → filled cells (Fault 20 at) ≡ elementAt fields s at cells r
+    unfolding elementAt
+    element-many l = rw (← isByte, eq-eqb b 123 brace, le-ltb r 4096 l)
+
+    element-record : r < 4096 → recordAt fields s at cells (r * (2 * count)) ≡ elementAt fields s at cells r
+    unfolding elementAt
+    element-record l = rw (← isByte, eq-eqb b 123 brace, lt-ltb r 4096 l, fields-length rows names count 0)
+
+    pub element-wide : r < 4096 → 64 < count → filled cells (Fault 99 at) ≡ elementAt fields s at cells r
+    element-wide l m =
+        record-none rows names count s at cells (r * (2 * count)) false (sym (room-wide s cells (r * (2 * count)) count m)) refl
+        ∙ element-record l
+
+    pub element-object : r < 4096 → (then : List ℕ) (x : Reading) → x ≡ recordAt fields s at cells (r * (2 * count)) .outcome → then ≡ recordAt fields s at cells (r * (2 * count)) .cells → filled then x ≡ elementAt fields s at cells r
+    element-object l then x isRecord isThen =
+        let z : filled then x ≡ recordAt fields s at cells (r * (2 * count)) = rw (isRecord, isThen) in
+        z ∙ element-record l
+
+-- an element lies within the file
+pub element-in : (fields : List Field) (s : List ℕ) (at : ℕ) (cells : List ℕ) (r : ℕ) → at ≤ length s → Within s at (elementAt fields s at cells r .outcome)
+unfolding elementAt
+element-in fields s at cells r l =
+    by-test (λ (f : Filled). Within s at (f .outcome)) (eqb (byteAt s at) 123) _ _
+    (λ _. by-test (λ (f : Filled). Within s at (f .outcome)) (ltb r 4096) _ _
+    (λ _. record-in fields s (r * (2 * length fields)) cells at l .place) (λ _. l))
+    (λ _. not-object-in s at l)
+
+-- ---- the elements: what is left of the whole at a place, and one law for each way a turn goes
+pub record Left (fields : List Field) (s : List ℕ) (whole : TableRead) (cells : List ℕ) (at r : ℕ) : Type 0 where
+  pub fuel : ℕ
+  pub inside : at ≤ length s
+  pub behind : r ≤ at
+  pub enough : length s < at + fuel
+  pub reads : elementsFrom fuel fields s at cells r ≡ whole
+
+pub left-all : (fields : List Field) (s cells : List ℕ) (at : ℕ) → 0 < at → at ≤ length s → Left fields s (elementsFrom (length s) fields s at cells 0) cells at 0
+left-all fields s cells at p l =
+    record { fuel = length s; inside = l; behind = omega arith; enough = omega arith; reads = refl }
+
+module _ (fields : List Field) (s : List ℕ) (whole : TableRead) (cells : List ℕ) (at r : ℕ) (then : List ℕ) (o : Reading) (isElement : filled then o ≡ elementAt fields s at cells r) where
+  outcome-told : elementAt fields s at cells r .outcome ≡ o
+  outcome-told = sym (ap (λ (f : Filled). f .outcome) isElement)
+
+  cells-told : elementAt fields s at cells r .cells ≡ then
+  cells-told = sym (ap (λ (f : Filled). f .cells) isElement)
+
+  fault-by : (f : ℕ) → length s < at + f → at ≤ length s → elementsFrom f fields s at cells r ≡ whole → (kind place : ℕ) → o ≡ Fault kind place → tableRead then (fault kind place) ≡ whole
+  unfolding elementsFrom
+  fault-by zero m l q kind place e = absurd (omega arith)
+  fault-by (suc g) m l q kind place e = rw (outcome-told ∙ e, elementsFrom, cells-told) at q
+
+  module _ (end : ℕ) (isWhole : o ≡ Whole end) (x : Next) (isNext : x ≡ nextAfter s end 93) where
+    more-by : (f : ℕ) → length s < at + f → at ≤ length s → r ≤ at → elementsFrom f fields s at cells r ≡ whole → (next : ℕ) → at < next → next ≤ length s → x ≡ More next → Left fields s whole then next (r + 1)
+    unfolding elementsFrom
+    more-by zero m l p q next h k e = absurd (omega arith)
+    more-by (suc g) m l p q next h k e =
+        record {
+          fuel = g;
+          inside = k;
+          behind = omega arith;
+          enough = omega arith;
+          reads = rw (outcome-told ∙ isWhole, elementsFrom, sym isNext ∙ e, elementsFrom, cells-told) at q;
+        }
+
+    ends-by : (f : ℕ) → length s < at + f → at ≤ length s → elementsFrom f fields s at cells r ≡ whole → (last : ℕ) (t : FileRead) → x ≡ Ends last → t ≡ endOfFile s (last + 1) (r + 1) → tableRead then t ≡ whole
+    unfolding elementsFrom
+    ends-by zero m l q last t e isEnd = absurd (omega arith)
+    ends-by (suc g) m l q last t e isEnd =
+        rw isEnd (rw (outcome-told ∙ isWhole, elementsFrom, sym isNext ∙ e, elementsFrom, cells-told) at q)
+
+    neither-by : (f : ℕ) → length s < at + f → at ≤ length s → elementsFrom f fields s at cells r ≡ whole → (place : ℕ) → x ≡ Neither place → tableRead then (fault 11 place) ≡ whole
+    unfolding elementsFrom
+    neither-by zero m l q place e = absurd (omega arith)
+    neither-by (suc g) m l q place e =
+        rw (outcome-told ∙ isWhole, elementsFrom, sym isNext ∙ e, elementsFrom, cells-told) at q
+
+  module _ (left : Left fields s whole cells at r) where
+    pub turn-fault : (kind place : ℕ) → o ≡ Fault kind place → tableRead then (fault kind place) ≡ whole
+    turn-fault = fault-by (left .fuel) (left .enough) (left .inside) (left .reads)
+
+    module _ (end : ℕ) (isWhole : o ≡ Whole end) (x : Next) (isNext : x ≡ nextAfter s end 93) where
+      -- the element ends behind its first byte, and what follows stands behind it
+      next-place : (at < end) × ((end ≤ length s) × NextIn s end x)
+      next-place =
+          let h : Within s at (Whole end) = rw (outcome-told ∙ isWhole) at (element-in fields s at cells r (left .inside)) in
+          (h .0, (h .1, rw isNext (next-in s end (h .1) 93 (omega arith))))
+
+      pub more-place : (next : ℕ) → x ≡ More next → (at < next) × (next ≤ length s)
+      more-place next e =
+          let h : (end < next) × (next ≤ length s) = rw e at (next-place .1 .1) in
+          (omega (arith, next-place .0, h .0), h .1)
+
+      pub ends-place : (last : ℕ) → x ≡ Ends last → last < length s
+      ends-place last e =
+          let h : (end ≤ last) × (last < length s) = rw e at (next-place .1 .1) in
+          h .1
+
+      pub turn-more : (next : ℕ) → x ≡ More next → Left fields s whole then next (r + 1)
+      turn-more next e =
+          more-by end isWhole x isNext (left .fuel) (left .enough) (left .inside) (left .behind) (left .reads) next (more-place next e .0) (more-place next e .1) e
+
+      pub turn-ends : (last : ℕ) (t : FileRead) → x ≡ Ends last → t ≡ endOfFile s (last + 1) (r + 1) → tableRead then t ≡ whole
+      turn-ends = ends-by end isWhole x isNext (left .fuel) (left .enough) (left .inside) (left .reads)
+
+      pub turn-neither : (place : ℕ) → x ≡ Neither place → tableRead then (fault 11 place) ≡ whole
+      turn-neither = neither-by end isWhole x isNext (left .fuel) (left .enough) (left .inside) (left .reads)
+
+-- ---- an array
+module _ (s : List ℕ) (at : ℕ) (x : Next) (isFirst : x ≡ firstIn s at 93) where
+  pub first-more : (next : ℕ) → x ≡ More next → (at < next) × (next ≤ length s)
+  first-more next e = rw (sym isFirst ∙ e) at (first-in s at 93 (omega arith))
+
+  pub first-ends : (last : ℕ) → x ≡ Ends last → last < length s
+  first-ends last e =
+      let h : (at ≤ last) × (last < length s) = rw (sym isFirst ∙ e) at (first-in s at 93 (omega arith)) in
+      h .1
+
+module _ (fields : List Field) (s cells : List ℕ) (at b : ℕ) (isByte : b ≡ byteAt s at) where
+  pub array-other : (b ≡ 91 → ⊥) → (r : Reading) (x : FileRead) → r ≡ notObjectAt s at → x ≡ singleRead s r → tableRead cells x ≡ arrayAt fields s cells at
+  unfolding arrayAt singleOf
+  array-other e r x isOther isRead = rw (← isByte, ne-eqb b 91 e, ← isOther, isRead)
+
+  module _ (bracket : b ≡ 91) (x : Next) (isFirst : x ≡ firstIn s at 93) where
+    array-whole : arrayAt fields s cells at ≡ elementsOf fields s cells x
+    unfolding arrayAt
+    array-whole = rw (← isByte, eq-eqb b 91 bracket, ← isFirst)
+
+    pub array-more : (next : ℕ) (f : TableRead) → x ≡ More next → f ≡ elementsFrom (length s) fields s next cells 0 → f ≡ arrayAt fields s cells at
+    unfolding elementsOf
+    array-more next f e isRest = rw (array-whole, e) isRest
+
+    pub array-ends : (last : ℕ) (t : FileRead) → x ≡ Ends last → t ≡ endOfFile s (last + 1) 0 → tableRead cells t ≡ arrayAt fields s cells at
+    unfolding elementsOf
+    array-ends last t e isEnd = rw (array-whole, e, isEnd)
+
+    pub array-neither : (place : ℕ) → x ≡ Neither place → tableRead cells (fault 11 place) ≡ arrayAt fields s cells at
+    unfolding elementsOf
+    array-neither place e = rw (array-whole, e)
+
+-- ---- a table
+pub both : (f g : TableRead) → f ≡ g → (f .read ≡ g .read) × (f .cells ≡ g .cells)
+both f g e = (ap (λ (x : TableRead). x .read) e, ap (λ (x : TableRead). x .cells) e)
+
+module _ (fields : List Field) (s cells : List ℕ) (at : ℕ) (isStart : at ≡ spacesEnd s 0) (single : Bool) (f : TableRead) where
+  pub table-single : single ≡ true → f ≡ singleAt fields s cells at → f ≡ tableOf single fields s cells
+  unfolding tableOf
+  table-single e isSingle = rw (e, ← isStart) isSingle
+
+  pub table-array : single ≡ false → f ≡ arrayAt fields s cells at → f ≡ tableOf single fields s cells
+  unfolding tableOf
+  table-array e isArray = rw (e, ← isStart) isArray
+
+-- ---- the bytes of file 0
+module _ (a b : List ℕ) where
+  pub same-longer : (length a ≡ length b → ⊥) → sameList a b ≡ false
+  same-longer e = go (sameList a b) refl
+    where
+      go : (t : Bool) → sameList a b ≡ t → t ≡ false
+      go true q = absurd (e (ap length (same-equal a b q)))
+      go false q = refl
+
+  module _ (i : ℕ) where
+    pub same-more : i < length a → i < length b → getD a i 0 ≡ getD b i 0 → sameList (drop i a) (drop i b) ≡ sameList (drop (i + 1) a) (drop (i + 1) b)
+    unfolding sameList
+    same-more l m e = rw (drop-cons a i 0 l, drop-cons b i 0 m, eq-eqb (getD a i 0) (getD b i 0) e, add-one i)
+
+    pub same-differs : i < length a → i < length b → (getD a i 0 ≡ getD b i 0 → ⊥) → sameList (drop i a) (drop i b) ≡ false
+    unfolding sameList
+    same-differs l m e = rw (drop-cons a i 0 l, drop-cons b i 0 m, ne-eqb (getD a i 0) (getD b i 0) e)
+
+    pub same-ends : length a ≤ i → length b ≤ i → sameList (drop i a) (drop i b) ≡ true
+    unfolding sameList
+    same-ends l m = rw (drop-of-length-le a l, drop-of-length-le b m)
+
+-- ---- a file
+module _ (fields : List Field) (s cells : List ℕ) (file : ℕ) (present : Bool) where
+  pub file-omitted : present ≡ false → (x : FileRead) → x ≡ omitted file → tableRead cells x ≡ fileOf file present fields s cells
+  unfolding fileOf
+  file-omitted e x isRead = rw (e, isRead)
+
+  module _ (e : present ≡ true) where
+    pub file-type : file ≡ 0 → (x : FileRead) → x ≡ typeFile s → tableRead cells x ≡ fileOf file present fields s cells
+    unfolding fileOf
+    file-type z x isRead = rw (e, eq-eqb file 0 z, isRead)
+
+    pub file-table : (file ≡ 0 → ⊥) → (single : Bool) → single ≡ within 1 3 file → (then : List ℕ) (x : FileRead) → x ≡ tableOf single fields s cells .read → then ≡ tableOf single fields s cells .cells → tableRead then x ≡ fileOf file present fields s cells
+    unfolding fileOf
+    file-table z single isSingle then x isRead isThen = rw (e, ne-eqb file 0 z, ← isSingle, isRead, isThen)

@@ -1,0 +1,85 @@
+-- A table, read once: its records' cells one record behind the other, and its mark with the number of its records.
+-- Document 01: "The first fault in reading order is the mark."
+use Prim.Native.Nat.{ℕ, zero, suc, _+_, _*_}
+use mathlib.Core.Bool.{Bool, true, false, cond}
+use mathlib.Core.List.{List}
+use lib.ListN.{length}
+use lib.Dec.{ltb, eqb}
+use Rattle.json_bytes.specs.Reads.{byteAt, spacesEnd}
+use Rattle.json_bytes.specs.declared.Reading.{Reading}
+use Rattle.json_bytes.specs.declared.Reading.the-variants.{Whole, Fault}
+use Rattle.table_fields.specs.Fields.{Field}
+use Rattle.table_value.specs.Value.{notObjectAt}
+use Rattle.table_name.specs.Name.{firstIn, nextAfter}
+use Rattle.table_name.specs.declared.Next.{Next}
+use Rattle.table_name.specs.declared.Next.the-variants.{More, Ends, Neither}
+use Rattle.table_record.specs.Record.{Filled, filled, recordAt}
+use Rattle.table_file.specs.declared.FileRead.{FileRead}
+
+-- kind 0 place 0: it holds, with so many records; else the fault, and none
+abbrev pub holds : ℕ → FileRead
+holds records = record { kind = 0; place = 0; records = records }
+
+abbrev pub fault : ℕ → ℕ → FileRead
+fault kind place = record { kind = kind; place = place; records = 0 }
+
+pub record TableRead : Type 0 where
+  pub cells : List ℕ
+  pub read : FileRead
+
+abbrev pub tableRead : List ℕ → FileRead → TableRead
+tableRead cells read = record { cells = cells; read = read }
+
+-- behind the value only spaces may stand; the first other byte is one at which no JSON text can go on
+unfoldable pub endOfFile : List ℕ → ℕ → ℕ → FileRead
+endOfFile s at records = cond (ltb (spacesEnd s at) (length s)) (fault 11 (spacesEnd s at)) (holds records)
+
+-- ---- A singleton is an object
+-- the mark by how the file's value was read
+unfoldable pub singleRead : List ℕ → Reading → FileRead
+singleRead s (Whole end) = endOfFile s end 1
+singleRead s (Fault kind place) = fault kind place
+
+unfoldable pub singleOf : List ℕ → Filled → TableRead
+singleOf s f = tableRead (f .cells) (singleRead s (f .outcome))
+
+unfoldable pub singleAt : List Field → List ℕ → List ℕ → ℕ → TableRead
+singleAt fields s cells at =
+    cond (eqb (byteAt s at) 123) (singleOf s (recordAt fields s at cells 0)) (singleOf s (filled cells (notObjectAt s at)))
+
+-- ---- A table is an array of objects
+-- the element behind r records. 20: "more than 4,096 records; opening brace of the 4,097th"
+unfoldable pub elementAt : List Field → List ℕ → ℕ → List ℕ → ℕ → Filled
+elementAt fields s at cells r =
+    cond (eqb (byteAt s at) 123)
+    (cond (ltb r 4096) (recordAt fields s at cells (r * (2 * length fields))) (filled cells (Fault 20 at)))
+    (filled cells (notObjectAt s at))
+
+-- the elements one behind the other, the next at a place, behind r records; each takes a byte at least
+unfoldable pub elementsFrom : ℕ → List Field → List ℕ → ℕ → List ℕ → ℕ → TableRead
+elementsFrom zero fields s at cells r = tableRead cells (fault 11 at)
+elementsFrom (suc n) fields s at cells r =
+    let element = elementAt fields s at cells r in
+    elim (element .outcome) [
+      | Whole end ↦
+          elim (nextAfter s end 93) [
+            | More next ↦ elementsFrom n fields s next (element .cells) (r + 1)
+            | Ends last ↦ tableRead (element .cells) (endOfFile s (last + 1) (r + 1))
+            | Neither place ↦ tableRead (element .cells) (fault 11 place)
+          ]
+      | Fault kind place ↦ tableRead (element .cells) (fault kind place)
+    ]
+
+unfoldable pub elementsOf : List Field → List ℕ → List ℕ → Next → TableRead
+elementsOf fields s cells (More at) = elementsFrom (length s) fields s at cells 0
+elementsOf fields s cells (Ends at) = tableRead cells (endOfFile s (at + 1) 0)
+elementsOf fields s cells (Neither at) = tableRead cells (fault 11 at)
+
+unfoldable pub arrayAt : List Field → List ℕ → List ℕ → ℕ → TableRead
+arrayAt fields s cells at =
+    cond (eqb (byteAt s at) 91) (elementsOf fields s cells (firstIn s at 93)) (singleOf s (filled cells (notObjectAt s at)))
+
+-- ---- Either, behind the spaces that the file begins with
+unfoldable pub tableOf : Bool → List Field → List ℕ → List ℕ → TableRead
+tableOf single fields s cells =
+    cond single (singleAt fields s cells (spacesEnd s 0)) (arrayAt fields s cells (spacesEnd s 0))

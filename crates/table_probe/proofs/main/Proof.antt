@@ -1,0 +1,48 @@
+-- `table_probe::main` is safe and ends. The lengths of its large arrays are known by a law, not counted.
+use mathlib.Core.Path.{sym}
+use Prim.Native.Nat.{ℕ}
+use lib.ListN.{length-replicate}
+use borrow.Author.Needs.{needs}
+use Rattle.table_probe.proofs.main.Statement.{statement}
+use Rattle.table_probe.proofs.main.Tie as tie
+
+field-rows-requires : tie.Need-field-rows-requires
+field-rows-requires c κs = tt
+
+field-names-requires : tie.Need-field-names-requires
+field-names-requires c κs = tt
+
+slice-aggregate-answer-all : tie.Need-slice-aggregate-answer-all
+slice-aggregate-answer-all c = search needs
+
+slice-aggregate-answer-all-2 : tie.Need-slice-aggregate-answer-all-2
+slice-aggregate-answer-all-2 c = search needs
+
+slice-aggregate-answer-all-3 : tie.Need-slice-aggregate-answer-all-3
+slice-aggregate-answer-all-3 c = sym (length-replicate {A = ℕ} 1048576 0)
+
+slice-aggregate-answer-all-4 : tie.Need-slice-aggregate-answer-all-4
+slice-aggregate-answer-all-4 c = sym (length-replicate {A = ℕ} 188416 0)
+
+slice-aggregate-answer-all-5 : tie.Need-slice-aggregate-answer-all-5
+slice-aggregate-answer-all-5 c = sym (length-replicate {A = ℕ} 1048576 0)
+
+answer-all-requires : tie.Need-answer-all-requires
+answer-all-requires c κs = tt
+
+returns : tie.Need-returns
+returns c = tt
+
+pub main-spec : {M : Type 1} → statement M
+main-spec =
+    tie.close
+    (tie.spec
+    field-rows-requires
+    field-names-requires
+    slice-aggregate-answer-all
+    slice-aggregate-answer-all-2
+    slice-aggregate-answer-all-3
+    slice-aggregate-answer-all-4
+    slice-aggregate-answer-all-5
+    answer-all-requires
+    returns)

@@ -1,0 +1,210 @@
+// Answers cases of the table layer, so that a test can ask the compiled code thousands of them in
+// one run. A case on standard input is three little-endian u32 (file number, 1 if the file is
+// present, length) and the file's bytes; its answer on standard output is four little-endian u64
+// (kind, place, records, n) and the n cells of the records, each a little-endian u32. The program
+// ends where the input does, and at a case that is too long or of no file.
+ghost use Prim.Native.Nat.{_+_, _*_, _≤_, _<_};
+ghost use lib.ListN.{length};
+use libc::STDIN_FILENO;
+use libc::STDOUT_FILENO;
+use table_fields::field_count;
+use table_fields::field_names;
+use table_fields::field_rows;
+use table_fields::first_field;
+use table_fields::rows_after;
+use table_file::read_file;
+
+// A file's mark, the number of its records, and the number of its table's fields.
+struct Answer {
+    kind: u64,
+    place: u64,
+    records: usize,
+    count: usize,
+}
+
+// What stands before the n bytes of a case.
+enum Header {
+    Asks {
+        file: usize,
+        present: bool,
+        n: usize,
+    },
+    Nothing,
+}
+
+enum Next {
+    Answered(Answer),
+    End,
+}
+
+fn answer_of(
+    file: usize,
+    present: bool,
+    s: &[u8],
+    rows: &[u32],
+    names: &[u8],
+    cells: &mut [u32],
+) -> Answer {
+    let own = rows_after(rows, first_field(file));
+    let count = field_count(file);
+    let read = read_file(file, present, s, own, names, count, cells);
+    Answer {
+        kind: read.kind as u64,
+        place: read.place as u64,
+        records: read.records,
+        count,
+    }
+}
+
+// Fills a buffer from standard input; false where the input ends before.
+fn fill(buf: &mut [u8]) -> bool {
+    let n = buf.len();
+    if n == 0 {
+        return true;
+    }
+    io::read_full(STDIN_FILENO, buf) == n
+}
+
+fn wide(b: u8) -> u32
+    ensures { λ r. ⌜ r < 256 ⌝ }
+{
+    b as u32
+}
+
+// The little-endian number at a place of a case's header.
+fn word_at(header: &[u8; 12], i: usize) -> u32
+    requires { ⌜ i + 3 < 12 ⌝ }
+{
+    let low = wide(header[i]) + wide(header[i + 1]) * 256;
+    low + wide(header[i + 2]) * 65536 + wide(header[i + 3]) * 16777216
+}
+
+fn read_header() -> Header {
+    let mut bytes = [0u8; 12];
+    if !fill(&mut bytes) {
+        return Header::Nothing;
+    }
+    Header::Asks {
+        file: word_at(&bytes, 0) as usize,
+        present: word_at(&bytes, 4) == 1,
+        n: word_at(&bytes, 8) as usize,
+    }
+}
+
+// The answer to the next case, whose bytes go to the front of a buffer.
+fn next_answer(rows: &[u32], names: &[u8], buf: &mut [u8], cells: &mut [u32]) -> Next {
+    let Header::Asks { file, present, n } = read_header() else {
+        return Next::End;
+    };
+    if 19 < file {
+        return Next::End;
+    }
+    if buf.len() < n {
+        return Next::End;
+    }
+    if !fill(&mut buf[..n]) {
+        return Next::End;
+    }
+    Next::Answered(answer_of(file, present, &buf[..n], rows, names, cells))
+}
+
+// Writes a number into that many bytes, the lowest first.
+fn put(out: &mut [u8], at: usize, size: usize, x: u64)
+    requires { ⌜ at + size ≤ length (now out) ⌝ }
+{
+    let mut rest = x;
+    let mut k = 0;
+    while k < size {
+        out[at + k] = (rest % 256) as u8;
+        rest = rest / 256;
+        k += 1;
+    }
+}
+
+fn long(cell: u32) -> u64 {
+    cell as u64
+}
+
+// Writes the first n cells into four bytes each.
+fn put_cells(out: &mut [u8], at: usize, cells: &[u32], n: usize)
+    requires { ⌜ (n ≤ length (now cells)) × (at + 4 * n ≤ length (now out)) ⌝ }
+{
+    let mut k = 0;
+    while k < n {
+        put(out, at + 4 * k, 4, long(cells[k]));
+        k += 1;
+    }
+}
+
+// How many cells an answer has: none where that were more than `most`, or than 4,096 records of 23
+// fields have. No right answer has more.
+fn cell_count(records: usize, count: usize, most: usize) -> usize
+    ensures { λ r. ⌜ (r ≤ most) × (r ≤ 188416) ⌝ }
+{
+    if 4096 < records {
+        return 0;
+    }
+    if 23 < count {
+        return 0;
+    }
+    let n = records * (2 * count);
+    if most < n {
+        return 0;
+    }
+    n
+}
+
+// Writes an answer, of at most 753,696 bytes, and gives the place behind it.
+fn put_answer(out: &mut [u8], at: usize, answer: Answer, cells: &[u32]) -> usize
+    requires { ⌜ at + 753696 ≤ length (now out) ⌝ }
+    ensures { λ r. ⌜ (at + 32 ≤ r) × (r ≤ length (now (out .entry))) ⌝ }
+{
+    let n = cell_count(answer.records, answer.count, cells.len());
+    put(out, at, 8, answer.kind);
+    put(out, at + 8, 8, answer.place);
+    put(out, at + 16, 8, answer.records as u64);
+    put(out, at + 24, 8, n as u64);
+    put_cells(out, at + 32, cells, n);
+    at + 32 + 4 * n
+}
+
+// Answers as many cases as the output surely has room for and writes the answers; whether to go on.
+fn answer_some(
+    rows: &[u32],
+    names: &[u8],
+    buf: &mut [u8],
+    cells: &mut [u32],
+    out: &mut [u8],
+) -> bool {
+    let mut used = 0;
+    while used + 753696 <= out.len() {
+        match next_answer(rows, names, buf, cells) {
+            Next::Answered(answer) => {
+                used = put_answer(out, used, answer, cells);
+            }
+            Next::End => {
+                io::write_all(STDOUT_FILENO, &out[..used]);
+                return false;
+            }
+        }
+    }
+    io::write_all(STDOUT_FILENO, &out[..used])
+}
+
+// A proved loop has to end, and nothing says that the input does. So the loop counts its turns
+// down, from a number that no run uses up.
+fn answer_all(rows: &[u32], names: &[u8], buf: &mut [u8], cells: &mut [u32], out: &mut [u8]) {
+    let mut turns = u64::MAX;
+    while turns > 0 && answer_some(rows, names, buf, cells, out) {
+        turns -= 1;
+    }
+}
+
+fn main() {
+    let rows = field_rows();
+    let names = field_names();
+    let mut buf = [0u8; 1048576];
+    let mut cells = [0u32; 188416];
+    let mut out = [0u8; 1048576];
+    answer_all(&rows, &names, &mut buf, &mut cells, &mut out);
+}
