@@ -11,11 +11,10 @@ use Rattle.json_chars.specs.Chars.{charsFrom, charsAt}
 use Rattle.json_text.specs.Text.{textFrom, textAt, barred, isWhite, wrongSpace, outsideID, ruleOf, none, wrongHere, firstOf, closesAt, wrongFrom, wrongAt, textRead}
 use Rattle.json_same.specs.Same.{casedAs, sameList, sameAs}
 use Rattle.table_fields.specs.Ascii.{codes}
-use Rattle.table_fields.specs.Fields.{Field, tables, fieldsOf}
+use Rattle.table_fields.specs.Fields.{tables, fieldsOf}
 use Rattle.table_value.specs.Value.{textType, textHeld, stringIn, stringValue, literalIn, literalValue, startsNumber, opens, valueAt, notObjectOf, notObjectAt}
 use Rattle.table_name.specs.Name.{indexOf, namedAt, nameAt, colonAt, firstIn, nextAfter}
 use Rattle.table_record.specs.Record.{startCell, isRead, endCell, stored, cleared, typeOf, storedValue, afterColon, afterName, pairAt, lacks, isMissing, closedAt, pairsFrom, membersOf, hasRoom, recordAt}
-use Rattle.table_file.specs.declared.FileRead.{FileRead}
 use Rattle.table_file.specs.Table.{
   holds,
   fault,

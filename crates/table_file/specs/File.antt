@@ -1,6 +1,6 @@
 -- The mark of a file by its number, document 01, "Marks 0 to 19: the file itself", for a file that may be omitted.
 use Prim.Native.Nat.{ℕ}
-use mathlib.Core.Bool.{Bool, true, false, cond, _||_}
+use mathlib.Core.Bool.{Bool, cond, _||_}
 use mathlib.Core.List.{List, [], _∷_}
 use lib.Dec.{eqb}
 use Rattle.json_bytes.specs.Reads.{within}

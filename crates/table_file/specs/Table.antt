@@ -1,7 +1,7 @@
 -- A table, read once: its records' cells one record behind the other, and its mark with the number of its records.
 -- Document 01: "The first fault in reading order is the mark."
 use Prim.Native.Nat.{ℕ, zero, suc, _+_, _*_}
-use mathlib.Core.Bool.{Bool, true, false, cond}
+use mathlib.Core.Bool.{Bool, cond}
 use mathlib.Core.List.{List}
 use lib.ListN.{length}
 use lib.Dec.{ltb, eqb}

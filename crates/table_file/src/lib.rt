@@ -95,6 +95,8 @@ fn element_at(
             place: at,
         };
     }
+    // A record of so many fields has no room anywhere; told here, where its cells would start is
+    // a number that fits.
     if 64 < count {
         return Reading::Fault {
             kind: 99,

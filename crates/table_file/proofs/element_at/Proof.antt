@@ -1,6 +1,5 @@
 -- `table_file::element_at` meets its contract: an object is read as a record, and anything else is judged.
 use borrow.Author.Needs.{needs}
-use mathlib.Core.Path.{_≡_, refl, sym, ap, _∙_}
 use native.Mathlib.Omega.{arith}
 use Rattle.table_file.proofs.Laws.{base-fits, element-other, element-many, element-wide, element-object}
 use Rattle.table_file.proofs.element_at.Statement.{statement}

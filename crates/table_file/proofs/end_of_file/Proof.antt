@@ -1,7 +1,6 @@
 -- `table_file::end_of_file` meets its contract: the tests that led to each answer decide the definition.
 use borrow.Author.Needs.{needs}
-use mathlib.Core.Path.{_≡_, refl, sym, ap, _∙_}
-use borrow.Author.Tests.{eq-eqb, ne-eqb, lt-ltb, le-ltb, le-leb, lt-leb}
+use borrow.Author.Tests.{lt-ltb, le-ltb}
 use Rattle.table_file.specs.Table.{endOfFile}
 use Rattle.table_file.proofs.end_of_file.Statement.{statement}
 use Rattle.table_file.proofs.end_of_file.Tie as tie

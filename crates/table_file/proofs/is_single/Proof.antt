@@ -1,7 +1,5 @@
 -- `table_file::is_single` meets its contract: the tests that led to each answer decide the definition.
-use borrow.Author.Needs.{needs}
-use mathlib.Core.Path.{_≡_, refl, sym, ap, _∙_}
-use borrow.Author.Tests.{eq-eqb, ne-eqb, lt-ltb, le-ltb, le-leb, lt-leb}
+use borrow.Author.Tests.{le-leb, lt-leb}
 use Rattle.json_bytes.specs.Reads.{within}
 use Rattle.table_file.proofs.is_single.Statement.{statement}
 use Rattle.table_file.proofs.is_single.Tie as tie

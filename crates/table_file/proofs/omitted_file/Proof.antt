@@ -1,6 +1,6 @@
 -- `table_file::omitted_file` meets its contract: the tests that led to each answer decide the definition.
 use borrow.Author.Needs.{needs}
-use mathlib.Core.Path.{_≡_, refl, sym, ap, _∙_}
+use mathlib.Core.Path.{sym, _∙_}
 use Rattle.table_file.specs.File.{omitted}
 use Rattle.table_file.proofs.omitted_file.Statement.{statement}
 use Rattle.table_file.proofs.omitted_file.Tie as tie

@@ -1,6 +1,5 @@
 -- `table_file::read_array` meets its contract: what stands behind the opening bracket decides; anything but an array is judged.
 use borrow.Author.Needs.{needs}
-use mathlib.Core.Path.{_≡_, refl, sym, ap, _∙_}
 use native.Mathlib.Omega.{arith}
 use Rattle.table_file.proofs.Laws.{first-more, first-ends, array-other, array-more, array-ends, array-neither}
 use Rattle.table_file.proofs.read_array.Statement.{statement}

@@ -1,6 +1,5 @@
 -- `table_file::read_file` meets its contract: the tests that led to each answer decide the definition.
 use borrow.Author.Needs.{needs}
-use mathlib.Core.Path.{_≡_, refl, sym, ap, _∙_}
 use borrow.Author.Tests.{not-true, not-false}
 use Rattle.table_file.proofs.Laws.{both, file-omitted, file-type, file-table}
 use Rattle.table_file.proofs.read_file.Statement.{statement}

@@ -1,6 +1,5 @@
 -- `table_file::read_single` meets its contract: an object is read as a record, and anything else is judged.
 use borrow.Author.Needs.{needs}
-use mathlib.Core.Path.{_≡_, refl, sym, ap, _∙_}
 use Rattle.table_file.proofs.Laws.{single-object, single-other}
 use Rattle.table_file.proofs.read_single.Statement.{statement}
 use Rattle.table_file.proofs.read_single.Tie as tie

@@ -1,6 +1,5 @@
 -- `table_file::read_table` meets its contract: the tests that led to each answer decide the definition.
 use borrow.Author.Needs.{needs}
-use mathlib.Core.Path.{_≡_, refl, sym, ap, _∙_}
 use Rattle.table_file.proofs.Laws.{both, table-single, table-array}
 use Rattle.table_file.proofs.read_table.Statement.{statement}
 use Rattle.table_file.proofs.read_table.Tie as tie

@@ -1,8 +1,7 @@
 -- `table_file::same_bytes` meets its contract: what is left to compare at the loop's head answers as the whole does.
-use borrow.Author.Needs.{needs}
-use mathlib.Core.Path.{_≡_, refl, sym, ap, _∙_}
+use mathlib.Core.Path.{_≡_, refl, sym, _∙_}
 use native.Mathlib.Omega.{arith}
-use Prim.Native.Nat.{_-_, _≤_}
+use Prim.Native.Nat.{_-_}
 use lib.ListN.{length, drop}
 use Rattle.json_same.specs.Same.{sameList}
 use Rattle.table_file.proofs.Laws.{same-longer, same-more, same-differs, same-ends}

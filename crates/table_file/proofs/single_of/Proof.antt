@@ -1,6 +1,5 @@
 -- `table_file::single_of` meets its contract: the tests that led to each answer decide the definition.
 use borrow.Author.Needs.{needs}
-use mathlib.Core.Path.{_≡_, refl, sym, ap, _∙_}
 use Rattle.table_file.specs.Table.{singleRead}
 use Rattle.table_file.proofs.single_of.Statement.{statement}
 use Rattle.table_file.proofs.single_of.Tie as tie

@@ -1,6 +1,6 @@
 -- `table_file::type_file` meets its contract: the tests that led to each answer decide the definition.
 use borrow.Author.Needs.{needs}
-use mathlib.Core.Path.{_≡_, refl, sym, ap, _∙_}
+use mathlib.Core.Path.{sym, _∙_}
 use Rattle.table_file.specs.File.{fileType, typeFile}
 use Rattle.table_file.proofs.type_file.Statement.{statement}
 use Rattle.table_file.proofs.type_file.Tie as tie
