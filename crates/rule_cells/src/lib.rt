@@ -2,7 +2,7 @@
 // the value stands, and what it is. Records and fields are counted from 0.
 ghost use mathlib.Core.Path.{_≡_};
 ghost use Prim.Native.Nat.{_+_, _*_, _≤_, _<_};
-ghost use Rattle.rule_cells.specs.Cells.{table, cellOf, startOf, isGiven, isWord, isTrue, integerIn, dateIn, signIn};
+ghost use Rattle.rule_cells.specs.Cells.{table, cellOf, startOf, isGiven, sameText, isWord, isTrue, integerIn, dateIn, signIn};
 use json_bytes::byte_at;
 use json_date::Date;
 use json_date::date_at;
@@ -12,6 +12,7 @@ use json_number::integer_of;
 use json_number::number_at;
 use json_number::sign_of;
 use json_same::Case;
+use json_same::same_text;
 use json_same::text_is;
 
 // Cell j of record r, in cells of `width` a record; 0 past them.
@@ -52,6 +53,31 @@ pub fn is_given(cells: &[u32], width: usize, r: usize, k: usize) -> bool
         return false;
     }
     0 < cell_of(cells, width, r, 2 * k + 1)
+}
+
+// Whether field k of record r and field m of record q, of one table or of two, are the same ID or
+// enumeration value.
+pub fn same_in(
+    s: &[u8],
+    cells: &[u32],
+    width: usize,
+    r: usize,
+    k: usize,
+    u: &[u8],
+    u_cells: &[u32],
+    u_width: usize,
+    q: usize,
+    m: usize,
+) -> bool
+    ensures { λ x. ⌜ x ≡ sameText (table (now (s .entry)) (now (cells .entry)) width 0) r k (table (now (u .entry)) (now («u_cells» .entry)) «u_width» 0) q m ⌝ }
+{
+    same_text(
+        s,
+        start_of(cells, width, r, k),
+        u,
+        start_of(u_cells, u_width, q, m),
+        Case::Folded,
+    )
 }
 
 // Whether field k of record r is a fixed word, A to Z counting as a to z.

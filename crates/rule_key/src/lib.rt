@@ -3,15 +3,13 @@ ghost use mathlib.Core.Path.{_≡_};
 ghost use mathlib.Core.Bool.{_&&_};
 ghost use lib.Dec.{eqb};
 ghost use Rattle.json_number.specs.Number.{sameSign};
-ghost use Rattle.rule_cells.specs.Cells.{table, sameText};
+ghost use Rattle.rule_cells.specs.Cells.{table};
 ghost use Rattle.rule_key.specs.Key.{sameInteger, sameDate, sameField, sameKey, earliest, keyRule};
 use json_date::Date;
 use json_number::Integer;
-use json_same::Case;
-use json_same::same_text;
 use rule_cells::date_in;
 use rule_cells::integer_in;
-use rule_cells::start_of;
+use rule_cells::same_in;
 
 // The fields of a key, each with its kind: 1 an ID, 2 an Integer, 3 a Date, and any other number
 // where the key has no such field.
@@ -99,15 +97,6 @@ fn same_date(a: Date, b: Date) -> bool
     same_day(y, m, d, z, n, e)
 }
 
-// Whether field k of records i and j holds one text.
-fn same_id(s: &[u8], cells: &[u32], width: usize, k: usize, i: usize, j: usize) -> bool
-    ensures { λ r. ⌜ r ≡ sameText (table (now (s .entry)) (now (cells .entry)) width 0) i k (table (now (s .entry)) (now (cells .entry)) width 0) j k ⌝ }
-{
-    let p = start_of(cells, width, i, k);
-    let q = start_of(cells, width, j, k);
-    same_text(s, p, s, q, Case::Folded)
-}
-
 // Whether field k of records i and j, of this kind, holds one value.
 fn same_field(
     s: &[u8],
@@ -121,7 +110,7 @@ fn same_field(
     ensures { λ r. ⌜ r ≡ sameField (table (now (s .entry)) (now (cells .entry)) width 0) kind k i j ⌝ }
 {
     if kind == 1 {
-        return same_id(s, cells, width, k, i, j);
+        return same_in(s, cells, width, i, k, s, cells, width, j, k);
     }
     if kind == 2 {
         return same_integer(

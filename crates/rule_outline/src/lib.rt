@@ -3,15 +3,13 @@
 // with such a column can be judged.
 ghost use mathlib.Core.Path.{_≡_};
 ghost use lib.ListN.{length};
-ghost use Rattle.rule_cells.specs.Cells.{table, sameText};
+ghost use Rattle.rule_cells.specs.Cells.{table};
 ghost use Rattle.rule_outline.specs.Outline.{levelOf, lowerBefore, parentsUpTo, hasRoom, withParents, heldIn, runBreaks, levelRule, parentShown, parentBreaks, parentRule, someOf, isTyped, parentTypeBreaks, parentTypeRule};
 use json_number::Integer;
-use json_same::Case;
-use json_same::same_text;
 use rule_cells::integer_in;
 use rule_cells::is_given;
 use rule_cells::is_word;
-use rule_cells::start_of;
+use rule_cells::same_in;
 
 // Levels are kept ten to the fifteenth higher, so that none is below 0.
 const LEVEL_ZERO: u64 = 1_000_000_000_000_000;
@@ -145,30 +143,6 @@ fn parent_shown(
         return 0;
     }
     parent_in(parents, r)
-}
-
-// Whether field k of record r and field m of record q of another table are the same text.
-fn same_in(
-    s: &[u8],
-    cells: &[u32],
-    width: usize,
-    r: usize,
-    k: usize,
-    u: &[u8],
-    u_cells: &[u32],
-    u_width: usize,
-    q: usize,
-    m: usize,
-) -> bool
-    ensures { λ x. ⌜ x ≡ sameText (table (now (s .entry)) (now (cells .entry)) width 0) r k (table (now (u .entry)) (now («u_cells» .entry)) «u_width» 0) q m ⌝ }
-{
-    same_text(
-        s,
-        start_of(cells, width, r, k),
-        u,
-        start_of(u_cells, u_width, q, m),
-        Case::Folded,
-    )
 }
 
 // Whether record r breaks mark 79.

@@ -5,12 +5,12 @@ use Rattle.rule_key.specs.Key.{sameField}
 use Rattle.rule_key.proofs.same_field.Statement.{statement}
 use Rattle.rule_key.proofs.same_field.Tie as tie
 
-same-id-requires : tie.Need-same-id-requires
-same-id-requires c κs = search needs
+same-in-requires : tie.Need-same-in-requires
+same-in-requires c κs = search needs
 
 returns : tie.Need-returns
 unfolding sameField
-returns c = rw (eq-eqb _ 1 (c .before .if1 .taken)) (c .same-id .ensures)
+returns c = rw (eq-eqb _ 1 (c .before .if1 .taken)) (c .same-in .ensures)
 
 integer-in-requires : tie.Need-integer-in-requires
 integer-in-requires c κs = search needs
@@ -46,7 +46,7 @@ pub same-field-spec : {M : Type 1} → statement M
 same-field-spec =
     tie.close
     (tie.spec
-    same-id-requires
+    same-in-requires
     returns
     integer-in-requires
     integer-in-requires-2

@@ -1,8 +1,8 @@
--- `rule_outline::same_in` meets its contract: its texts are where their cells say.
+-- `rule_cells::same_in` meets its contract: its texts are where their cells say.
 use borrow.Author.Needs.{needs}
 use Rattle.rule_cells.specs.Cells.{sameText, textOf}
-use Rattle.rule_outline.proofs.same_in.Statement.{statement}
-use Rattle.rule_outline.proofs.same_in.Tie as tie
+use Rattle.rule_cells.proofs.same_in.Statement.{statement}
+use Rattle.rule_cells.proofs.same_in.Tie as tie
 
 start-of-requires : tie.Need-start-of-requires
 start-of-requires c κs = search needs
