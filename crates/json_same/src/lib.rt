@@ -50,7 +50,7 @@ fn is_end(step: Step) -> bool
 }
 
 // Whether a byte stands for itself inside a string: no quote, no escape, no part of a sequence.
-fn is_plain(b: u32) -> bool
+pub fn is_plain(b: u32) -> bool
     ensures { λ r. ⌜ r ≡ isPlain b ⌝ }
 {
     if b == 34 {

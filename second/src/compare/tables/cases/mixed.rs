@@ -28,6 +28,10 @@ fn add_changed_bytes(cases: &mut Cases) {
     let table = any_table(cases);
     let mut bytes = random_file(table, &mut cases.random);
     for _ in 0..1 + cases.random.below(3) {
+        // earlier changes may have taken out the last byte of a short file
+        if bytes.is_empty() {
+            break;
+        }
         let byte = cases.random.pick(&ODD_BYTES);
         let at = cases.random.below(bytes.len());
         match cases.random.below(3) {
