@@ -4,7 +4,7 @@
 use Prim.Native.Nat.{ℕ}
 use mathlib.Core.Bool.{Bool, true, false, cond, not, _&&_, _||_}
 use mathlib.Core.List.{List}
-use lib.Dec.{ltb, eqb}
+use lib.Dec.{leb, ltb, eqb}
 use Rattle.table_fields.specs.Flat.{valueTextAt}
 use Rattle.rule_cells.specs.Cells.{Table}
 use Rattle.rule_key.specs.Key.{keyRule}
@@ -16,7 +16,7 @@ use Rattle.rule_value.specs.declared.FieldRule.{FieldRule}
 use Rattle.rule_value.specs.declared.FieldRule.the-variants.{OneOf, NullUnless, GivenIf}
 use Rattle.rule_target.specs.Target.{targetRule}
 use Rattle.rule_hours.specs.Hours.{noneBelow, someAbove, together}
-use Rattle.rule_outline.specs.Outline.{levelRule, parentRule, parentTypeRule, heldIn}
+use Rattle.rule_outline.specs.Outline.{levelRule, parentRule, parentTypeRule, parentOf}
 use Rattle.rule_outline.specs.declared.Outline.{Outline}
 use Rattle.rule_rows.specs.Rules.{rowCell}
 use Rattle.rules.specs.declared.Break.{Break}
@@ -46,25 +46,37 @@ ofKey k = record { «record» = k .«record»; other = k .same }
 abbrev pub ofOutline : Outline → Break
 ofOutline o = record { «record» = o .«record»; other = o .parent }
 
+-- an outline's rules, over the parents that document 01 gives; no table has over 4,096 records
+unfoldable pub parentBreak : List ℕ → ℕ → Table → Break
+parentBreak rows m t =
+    cond (leb (t .records) 4096)
+    (ofOutline (parentRule t (rowCell rows m 4) (rowCell rows m 5) (rowCell rows m 3) (parentOf t (rowCell rows m 4))))
+    (alone 0)
+
+unfoldable pub parentTypeBreak : List ℕ → ℕ → Table → Table → List ℕ → Break
+parentTypeBreak rows m t u word =
+    cond (leb (t .records) 4096)
+    (ofOutline
+    (parentTypeRule t (rowCell rows m 4) (rowCell rows m 5) (parentOf t (rowCell rows m 4)) u (rowCell rows m 6) (rowCell rows m 7) word))
+    (alone 0)
+
 -- shapes over one table
-unfoldable pub singleRule : List ℕ → ℕ → Table → List ℕ → List ℕ → List ℕ → Break
-singleRule rows m t places texts parents =
+unfoldable pub singleRule : List ℕ → ℕ → Table → List ℕ → List ℕ → Break
+singleRule rows m t places texts =
     cond (eqb (rowCell rows m 0) 0) (ofKey (keyRule t (keyOf rows m)))
     (cond (ltb (rowCell rows m 0) 4) (alone (fieldRule t (rowCell rows m 3) (fieldRuleOf rows m) places texts))
     (cond (eqb (rowCell rows m 0) 5) (alone (noneBelow t (rowCell rows m 3) (rowCell rows m 4)))
     (cond (eqb (rowCell rows m 0) 6) (alone (someAbove t (rowCell rows m 3) (rowCell rows m 4)))
     (cond (eqb (rowCell rows m 0) 7) (alone (together (t .cells) (t .width) (t .records) (rowCell rows m 3) (rowCell rows m 4)))
     (cond (eqb (rowCell rows m 0) 8) (alone (levelRule t (rowCell rows m 3)))
-    (ofOutline (parentRule t (rowCell rows m 4) (rowCell rows m 5) (rowCell rows m 3) (heldIn parents))))))))
+    (parentBreak rows m t))))))
 
 -- shape 4 looks for a target in the second table, shape 10 for the type of a parent's task; the others read one table
-unfoldable pub ruleBreak : List ℕ → ℕ → Table → Table → List ℕ → List ℕ → List ℕ → Break
-ruleBreak rows m t u places texts parents =
+unfoldable pub ruleBreak : List ℕ → ℕ → Table → Table → List ℕ → List ℕ → Break
+ruleBreak rows m t u places texts =
     cond (eqb (rowCell rows m 0) 4) (alone (targetRule t (rowCell rows m 3) (whenOf rows m) u (rowCell rows m 8) places texts))
-    (cond (eqb (rowCell rows m 0) 10)
-    (ofOutline
-    (parentTypeRule t (rowCell rows m 4) (rowCell rows m 5) (heldIn parents) u (rowCell rows m 6) (rowCell rows m 7) (valueTextAt places texts (rowCell rows m 8))))
-    (singleRule rows m t places texts parents))
+    (cond (eqb (rowCell rows m 0) 10) (parentTypeBreak rows m t u (valueTextAt places texts (rowCell rows m 8)))
+    (singleRule rows m t places texts))
 
 -- ---- The mark: of a rule whose first file has mark kind `first`, and its second `second` where it reads one
 unfoldable pub isJudged : List ℕ → ℕ → ℕ → ℕ → Bool

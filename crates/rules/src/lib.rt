@@ -2,12 +2,13 @@
 ghost use mathlib.Core.Path.{_≡_};
 ghost use Rattle.rule_cells.specs.Cells.{table};
 ghost use Rattle.rule_rows.specs.Rules.{rowCell};
-ghost use Rattle.rules.specs.Judge.{keyOf, whenOf, fieldRuleOf, singleRule, ruleBreak, isJudged, markOf};
+ghost use Rattle.rules.specs.Judge.{keyOf, whenOf, fieldRuleOf, parentBreak, parentTypeBreak, singleRule, ruleBreak, isJudged, markOf};
 use rule_hours::none_below;
 use rule_hours::some_above;
 use rule_hours::together;
 use rule_key::Key;
 use rule_key::key_rule;
+use rule_outline::fill_parents;
 use rule_outline::level_rule;
 use rule_outline::parent_rule;
 use rule_outline::parent_type_rule;
@@ -93,9 +94,8 @@ fn single_rule(
     records: usize,
     places: &[u32],
     texts: &[u8],
-    parents: &[u32],
 ) -> Break
-    ensures { λ r. ⌜ r ≡ singleRule (now (rows .entry)) m (table (now (s .entry)) (now (cells .entry)) width records) (now (places .entry)) (now (texts .entry)) (now (parents .entry)) ⌝ }
+    ensures { λ r. ⌜ r ≡ singleRule (now (rows .entry)) m (table (now (s .entry)) (now (cells .entry)) width records) (now (places .entry)) (now (texts .entry)) ⌝ }
 {
     let shape = row_cell(rows, m, 0);
     if shape == 0 {
@@ -138,16 +138,87 @@ fn single_rule(
             other: 0,
         };
     }
-    let task = column(rows, m, 5);
-    let found = parent_rule(s, cells, width, records, to, task, k, parents);
+    parent_break(rows, m, s, cells, width, records)
+}
+
+// Mark 79's rule. The parents are found once for all records and kept while the rule looks at them.
+fn parent_break(
+    rows: &[u32],
+    m: usize,
+    s: &[u8],
+    cells: &[u32],
+    width: usize,
+    records: usize,
+) -> Break
+    ensures { λ r. ⌜ r ≡ parentBreak (now (rows .entry)) m (table (now (s .entry)) (now (cells .entry)) width records) ⌝ }
+{
+    let level = column(rows, m, 4);
+    let mut parents = [0u32; 4096];
+    if fill_parents(s, cells, width, records, level, &mut parents) {
+        let task = column(rows, m, 5);
+        let k = column(rows, m, 3);
+        let found = parent_rule(s, cells, width, records, level, task, k, &parents);
+        return Break {
+            record: found.record,
+            other: found.parent,
+        };
+    }
     Break {
-        record: found.record,
-        other: found.parent,
+        record: 0,
+        other: 0,
     }
 }
 
-// The rule of mark m over the table that it judges and the table `u` that it looks into, if it does;
-// `parents` has the parent of each record of the first table where the rule is on an outline.
+// Mark 80's rule, with the parents kept in the same way.
+fn parent_type_break(
+    rows: &[u32],
+    m: usize,
+    s: &[u8],
+    cells: &[u32],
+    width: usize,
+    records: usize,
+    u: &[u8],
+    u_cells: &[u32],
+    u_width: usize,
+    u_records: usize,
+    word: &[u8],
+) -> Break
+    ensures { λ r. ⌜ r ≡ parentTypeBreak (now (rows .entry)) m (table (now (s .entry)) (now (cells .entry)) width records) (table (now (u .entry)) (now («u_cells» .entry)) «u_width» «u_records») (now (word .entry)) ⌝ }
+{
+    let level = column(rows, m, 4);
+    let mut parents = [0u32; 4096];
+    if fill_parents(s, cells, width, records, level, &mut parents) {
+        let task = column(rows, m, 5);
+        let id = column(rows, m, 6);
+        let ty = column(rows, m, 7);
+        let found = parent_type_rule(
+            s,
+            cells,
+            width,
+            records,
+            level,
+            task,
+            &parents,
+            u,
+            u_cells,
+            u_width,
+            u_records,
+            id,
+            ty,
+            word,
+        );
+        return Break {
+            record: found.record,
+            other: found.parent,
+        };
+    }
+    Break {
+        record: 0,
+        other: 0,
+    }
+}
+
+// The rule of mark m over the table that it judges and the table `u` that it looks into, if it does.
 pub fn rule_break(
     rows: &[u32],
     m: usize,
@@ -161,9 +232,8 @@ pub fn rule_break(
     u_records: usize,
     places: &[u32],
     texts: &[u8],
-    parents: &[u32],
 ) -> Break
-    ensures { λ r. ⌜ r ≡ ruleBreak (now (rows .entry)) m (table (now (s .entry)) (now (cells .entry)) width records) (table (now (u .entry)) (now («u_cells» .entry)) «u_width» «u_records») (now (places .entry)) (now (texts .entry)) (now (parents .entry)) ⌝ }
+    ensures { λ r. ⌜ r ≡ ruleBreak (now (rows .entry)) m (table (now (s .entry)) (now (cells .entry)) width records) (table (now (u .entry)) (now («u_cells» .entry)) «u_width» «u_records») (now (places .entry)) (now (texts .entry)) ⌝ }
 {
     let shape = row_cell(rows, m, 0);
     if shape == 4 {
@@ -190,35 +260,23 @@ pub fn rule_break(
         };
     }
     if shape == 10 {
-        let level = column(rows, m, 4);
-        let task = column(rows, m, 5);
-        let id = column(rows, m, 6);
-        let ty = column(rows, m, 7);
         let v = column(rows, m, 8);
-        let from = value_start(places, v);
-        let to = value_end(places, v);
-        let found = parent_type_rule(
+        let word = part(texts, value_start(places, v), value_end(places, v));
+        return parent_type_break(
+            rows,
+            m,
             s,
             cells,
             width,
             records,
-            level,
-            task,
-            parents,
             u,
             u_cells,
             u_width,
             u_records,
-            id,
-            ty,
-            part(texts, from, to),
+            word,
         );
-        return Break {
-            record: found.record,
-            other: found.parent,
-        };
     }
-    single_rule(rows, m, s, cells, width, records, places, texts, parents)
+    single_rule(rows, m, s, cells, width, records, places, texts)
 }
 
 // Whether mark m is judged, where its first file's mark is of kind `first` and its second's, if it

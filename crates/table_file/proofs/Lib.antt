@@ -1,3 +1,4 @@
 pub mod Cases
+pub mod Kept
 pub mod KindBound
 pub mod Laws

@@ -29,18 +29,6 @@ returns c = rw (← (c .before .before .before .before .before .row-cell .ensure
 column-requires-3 : tie.Need-column-requires-3
 column-requires-3 c κs = search needs
 
-column-requires-4 : tie.Need-column-requires-4
-column-requires-4 c κs = search needs
-
-column-requires-5 : tie.Need-column-requires-5
-column-requires-5 c κs = search needs
-
-column-requires-6 : tie.Need-column-requires-6
-column-requires-6 c κs = search needs
-
-column-requires-7 : tie.Need-column-requires-7
-column-requires-7 c κs = search needs
-
 value-start-requires : tie.Need-value-start-requires
 value-start-requires c κs = search needs
 
@@ -50,12 +38,12 @@ value-end-requires c κs = search needs
 part-requires : tie.Need-part-requires
 part-requires c κs = search needs
 
-parent-type-rule-requires : tie.Need-parent-type-rule-requires
-parent-type-rule-requires c κs = search needs
+parent-type-break-requires : tie.Need-parent-type-break-requires
+parent-type-break-requires c κs = search needs
 
 returns-2 : tie.Need-returns-2
 unfolding ruleBreak valueTextAt
-returns-2 c = rw (← (c .before .before .before .before .before .before .before .before .before .before .before .row-cell .ensures), ne-eqb _ 4 (c .before .before .before .before .before .before .before .before .before .before .if1 .left), eq-eqb _ 10 (c .before .before .before .before .before .before .before .before .before .if2 .taken), ← (c .before .before .before .before .before .before .before .before .column3 .ensures), ← (c .before .before .before .before .before .before .before .column4 .ensures), ← (c .before .before .before .before .before .before .column5 .ensures), ← (c .before .before .before .before .before .column6 .ensures), ← (c .before .before .before .before .column7 .ensures), ← (c .before .before .before .value-start .ensures), ← (c .before .before .value-end .ensures), ← (c .before .part .ensures), ← (c .parent-type-rule .ensures))
+returns-2 c = rw (← (c .before .before .before .before .before .before .before .row-cell .ensures), ne-eqb _ 4 (c .before .before .before .before .before .before .if1 .left), eq-eqb _ 10 (c .before .before .before .before .before .if2 .taken), ← (c .before .before .before .before .column3 .ensures), ← (c .before .before .before .value-start .ensures), ← (c .before .before .value-end .ensures), ← (c .before .part .ensures)) (c .parent-type-break .ensures)
 
 single-rule-requires : tie.Need-single-rule-requires
 single-rule-requires c κs = search needs
@@ -75,14 +63,10 @@ rule-break-spec =
     target-rule-requires
     returns
     column-requires-3
-    column-requires-4
-    column-requires-5
-    column-requires-6
-    column-requires-7
     value-start-requires
     value-end-requires
     part-requires
-    parent-type-rule-requires
+    parent-type-break-requires
     returns-2
     single-rule-requires
     returns-3)

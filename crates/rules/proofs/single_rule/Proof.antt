@@ -63,15 +63,12 @@ returns-6 : tie.Need-returns-6
 unfolding singleRule
 returns-6 c = rw (← (c .before .before .before .before .before .before .before .before .before .row-cell .ensures), ne-eqb _ 0 (c .before .before .before .before .before .before .before .before .if1 .left), ← (c .before .before .before .before .before .before .before .column .ensures), le-ltb _ 4 (c .before .before .before .before .before .before .if2 .left), ← (c .before .before .before .before .before .column2 .ensures), ne-eqb _ 5 (c .before .before .before .before .if3 .left), ne-eqb _ 6 (c .before .before .before .if4 .left), ne-eqb _ 7 (c .before .before .if5 .left), eq-eqb _ 8 (c .before .if6 .taken), ← (c .level-rule .ensures))
 
-column-requires-3 : tie.Need-column-requires-3
-column-requires-3 c κs = search needs
-
-parent-rule-requires : tie.Need-parent-rule-requires
-parent-rule-requires c κs = search needs
+parent-break-requires : tie.Need-parent-break-requires
+parent-break-requires c κs = search needs
 
 returns-7 : tie.Need-returns-7
 unfolding singleRule
-returns-7 c = rw (← (c .before .before .before .before .before .before .before .before .before .before .row-cell .ensures), ne-eqb _ 0 (c .before .before .before .before .before .before .before .before .before .if1 .left), ← (c .before .before .before .before .before .before .before .before .column .ensures), le-ltb _ 4 (c .before .before .before .before .before .before .before .if2 .left), ← (c .before .before .before .before .before .before .column2 .ensures), ne-eqb _ 5 (c .before .before .before .before .before .if3 .left), ne-eqb _ 6 (c .before .before .before .before .if4 .left), ne-eqb _ 7 (c .before .before .before .if5 .left), ne-eqb _ 8 (c .before .before .if6 .left), ← (c .before .column3 .ensures), ← (c .parent-rule .ensures))
+returns-7 c = rw (← (c .before .before .before .before .before .before .before .before .before .row-cell .ensures), ne-eqb _ 0 (c .before .before .before .before .before .before .before .before .if1 .left), le-ltb _ 4 (c .before .before .before .before .before .before .if2 .left), ne-eqb _ 5 (c .before .before .before .before .if3 .left), ne-eqb _ 6 (c .before .before .before .if4 .left), ne-eqb _ 7 (c .before .before .if5 .left), ne-eqb _ 8 (c .before .if6 .left)) (c .parent-break .ensures)
 
 pub single-rule-spec : {M : Type 1} → statement M
 single-rule-spec =
@@ -94,6 +91,5 @@ single-rule-spec =
     returns-5
     level-rule-requires
     returns-6
-    column-requires-3
-    parent-rule-requires
+    parent-break-requires
     returns-7)
