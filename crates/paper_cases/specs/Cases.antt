@@ -1,0 +1,190 @@
+-- Document 01, "Both sides of each line": the cases that it marks (P), in its order, each with what the definitions answer
+-- and what the paper states. What is judged is a file's text, read and judged by the definitions that the contracts use.
+use Prim.Native.Nat.{ℕ, zero, suc, _*_}
+use Prim.Native.String.{String, _++_}
+use mathlib.Core.Bool.{Bool, true, false, cond, not}
+use mathlib.Core.List.{List, [], _∷_}
+use lib.ListN.{length, replicate}
+use lib.Dec.{eqb}
+use Rattle.json_number.specs.declared.Integer.{Integer}
+use Rattle.json_number.specs.declared.Integer.the-variants.{Is, Fraction, TooLarge}
+use Rattle.table_fields.specs.Ascii.{codes}
+use Rattle.table_fields.specs.Fields.{fieldsOf}
+use Rattle.table_file.specs.Table.{TableRead}
+use Rattle.table_file.specs.File.{fileOf}
+use Rattle.rule_cells.specs.Cells.{Table, table, integerIn}
+use Rattle.rule_key.specs.Key.{keyRule}
+use Rattle.rule_key.specs.declared.Key.{Key}
+use Rattle.rule_hours.specs.Hours.{noneBelow}
+use Rattle.rule_outline.specs.Outline.{levelOf, levelRule, parentsUpTo}
+use Rattle.rule_rows.specs.Rules.{no, ruleRows, rowCell, readsFile}
+
+-- ---- A case
+pub record Case : Type 0 where
+  pub answered : List ℕ
+  pub stated : List ℕ
+
+infix 70 _gives_
+abbrev pub _gives_ : List ℕ → List ℕ → Case
+_gives_ answered stated = record { answered = answered; stated = stated }
+
+-- ---- Marks, "each a kind and a place"
+abbrev pub mark : ℕ → ℕ → List ℕ
+mark kind place = kind ∷ place ∷ []
+
+-- "Kind 0 place 0: holds"; "Kind 1: broken, place the first breaking record"; "Kind 2 place 0: not judged"
+abbrev pub holds : List ℕ
+holds = mark 0 0
+
+abbrev pub broken : ℕ → List ℕ
+broken place = mark 1 place
+
+abbrev pub notJudged : List ℕ
+notJudged = mark 2 0
+
+-- ---- Marks 0 to 19
+-- a file by its number and its text, read into cells that are 0; 64 are enough for each text below
+unfoldable pub reading : ℕ → String → TableRead
+reading file s = fileOf file true (fieldsOf file) (codes s) (replicate 64 0)
+
+unfoldable pub fileMark : ℕ → String → List ℕ
+fileMark file s = let r = reading file s .read in mark (r .kind) (r .place)
+
+-- the file as the rules see it
+unfoldable pub tableIn : ℕ → String → Table
+tableIn file s = let r = reading file s in table (codes s) (r .cells) (2 * length (fieldsOf file)) (r .read .records)
+
+-- ---- Marks 20 to 80, of rules that read one file
+-- number j of the row of mark m: 0 its shape, 1 its file, from 3 on what its shape needs
+abbrev pub column : ℕ → ℕ → ℕ
+column m j = rowCell ruleRows m j
+
+unfoldable pub keyOf : ℕ → Key
+keyOf m =
+    record { a = column m 3; «a_kind» = column m 4; b = column m 5; «b_kind» = column m 6; c = column m 7; «c_kind» = column m 8 }
+
+-- the first breaking record, counted from 1, 0 for none: shape 0 is a primary key, 5 no hours below zero, 8 Levels; no
+-- other is asked for here
+unfoldable pub breaking : ℕ → Table → ℕ
+breaking m t =
+    cond (eqb (column m 0) 0) (keyRule t (keyOf m) .«record»)
+    (cond (eqb (column m 0) 5) (noneBelow t (column m 3) (column m 4))
+    (cond (eqb (column m 0) 8) (levelRule t (column m 3)) 0))
+
+unfoldable pub ruleMark : ℕ → String → List ℕ
+ruleMark m s =
+    let file = column m 1 in
+    let first = breaking m (tableIn file s) in
+    cond (eqb (reading file s .read .kind) 0) (cond (eqb first 0) holds (broken first)) notJudged
+
+-- ---- What else the cases ask for
+-- an Integer of zero or more; nothing for any other
+unfoldable pub natural : Integer → List ℕ
+natural (Is negative n) = cond negative [] (n ∷ [])
+natural Fraction = []
+natural TooLarge = []
+
+-- the Ordinal of the first record of a file 7
+unfoldable pub ordinalIn : String → List ℕ
+ordinalIn s = natural (integerIn (tableIn 7 s) 0 (no 7 "Ordinal"))
+
+-- the parents of the records of a file 15, counted from 1, 0 for none
+unfoldable pub parentsIn : String → List ℕ
+parentsIn s = parentsUpTo (levelOf (tableIn 15 s) (no 15 "Level")) (tableIn 15 s .records)
+
+-- of n marks from mark m on, those that pass a test
+unfoldable pub marksFrom : (ℕ → Bool) → ℕ → ℕ → List ℕ
+marksFrom test zero m = []
+marksFrom test (suc n) m = elim (test m) [ true ↦ m ∷ marksFrom test n (suc m) | false ↦ marksFrom test n (suc m) ]
+
+-- "the changed file's mark and those of the rules that read it", and "All other marks come back as handed in"
+unfoldable pub touched : ℕ → List ℕ
+touched file = marksFrom (λ m. readsFile ruleRows m file) 81 0
+
+unfoldable pub comingBack : ℕ → List ℕ
+comingBack file = marksFrom (λ m. not (readsFile ruleRows m file)) 81 0
+
+-- ---- Texts
+unfoldable pub quoted : String → String
+quoted s = "\"" ++ s ++ "\""
+
+-- an array with one record a value, the value last, behind the same other fields in each
+unfoldable pub recordsOf : String → List String → String
+recordsOf front [] = "]"
+recordsOf front (v ∷ []) = front ++ v ++ "}]"
+recordsOf front (v ∷ w ∷ vs) = front ++ v ++ "}," ++ recordsOf front (w ∷ vs)
+
+unfoldable pub arrayOf : String → List String → String
+arrayOf front values = "[" ++ recordsOf front values
+
+-- file 6, Calendars: ID is a StringID, Name a String, Comments a Text
+unfoldable pub withID : List String → String
+withID = arrayOf "{\"Name\":\"N\",\"ID\":"
+
+unfoldable pub withName : List String → String
+withName = arrayOf "{\"ID\":\"C\",\"Name\":"
+
+unfoldable pub withComments : List String → String
+withComments = arrayOf "{\"ID\":\"C\",\"Name\":\"N\",\"Comments\":"
+
+-- file 7, CalendarWorkshifts: Ordinal is an Integer, SundayWorkHours a Decimal
+unfoldable pub withOrdinal : List String → String
+withOrdinal = arrayOf "{\"CalendarID\":\"C\",\"Ordinal\":"
+
+unfoldable pub withHours : List String → String
+withHours = arrayOf "{\"CalendarID\":\"C\",\"SundayWorkHours\":"
+
+-- file 8, CalendarExceptions: ExceptionDate is a Date
+unfoldable pub withDate : List String → String
+withDate = arrayOf "{\"CalendarID\":\"C\",\"ExceptionDate\":"
+
+-- file 15, TaskOutlineStructure
+unfoldable pub withLevel : List String → String
+withLevel = arrayOf "{\"TaskID\":\"T\",\"Level\":"
+
+-- ---- The cases. Where a value is at fault, the place is how many bytes stand before it.
+unfoldable pub cases : List Case
+cases =
+    -- P1 `ENG-01` and `eng-01` are one ID: mark 22, the key of Calendars
+    ruleMark 22 (withID (quoted "ENG-01" ∷ quoted "eng-01" ∷ [])) gives broken 2 ∷
+    ruleMark 22 (withID (quoted "ENG-01" ∷ quoted "eng-02" ∷ [])) gives holds ∷
+    -- P2 Ordinal null, 0 and `0.0` are one key value: mark 23, the key of CalendarWorkshifts
+    ruleMark 23 (withOrdinal ("null" ∷ "0" ∷ [])) gives broken 2 ∷
+    ruleMark 23 (withOrdinal ("null" ∷ "0.0" ∷ [])) gives broken 2 ∷
+    ruleMark 23 (withOrdinal ("0" ∷ "0.0" ∷ [])) gives broken 2 ∷
+    ruleMark 23 (withOrdinal ("0" ∷ "1" ∷ [])) gives holds ∷
+    -- P3 `10e-1` is Integer 1; `0.5` is 15
+    fileMark 7 (withOrdinal ("10e-1" ∷ [])) gives holds ∷
+    ordinalIn (withOrdinal ("10e-1" ∷ [])) gives (1 ∷ []) ∷
+    fileMark 7 (withOrdinal ("0.5" ∷ [])) gives mark 15 29 ∷
+    -- P4 `-0` isn't below zero: mark 68, "no hours below zero"
+    ruleMark 68 (withHours ("-0" ∷ [])) gives holds ∷
+    ruleMark 68 (withHours ("-1" ∷ [])) gives broken 1 ∷
+    -- P5 `999999999999999` fits, `1000000000000000` is 18: as Decimal and as Integer
+    fileMark 7 (withHours ("999999999999999" ∷ [])) gives holds ∷
+    fileMark 7 (withHours ("1000000000000000" ∷ [])) gives mark 18 37 ∷
+    fileMark 7 (withOrdinal ("999999999999999" ∷ [])) gives holds ∷
+    fileMark 7 (withOrdinal ("1000000000000000" ∷ [])) gives mark 18 29 ∷
+    -- P6 Decimal `1e15` fits, `1e16` is 18; Integer `1e15` is 18
+    fileMark 7 (withHours ("1e15" ∷ [])) gives holds ∷
+    fileMark 7 (withHours ("1e16" ∷ [])) gives mark 18 37 ∷
+    fileMark 7 (withOrdinal ("1e15" ∷ [])) gives mark 18 29 ∷
+    -- P7 2000-02-29 is a date, 1900-02-29 isn't: 17
+    fileMark 8 (withDate (quoted "2000-02-29" ∷ [])) gives holds ∷
+    fileMark 8 (withDate (quoted "1900-02-29" ∷ [])) gives mark 17 35 ∷
+    -- P8 `A  B` (two spaces) breaks String and not Text: 16
+    fileMark 6 (withName (quoted "A  B" ∷ [])) gives mark 16 18 ∷
+    fileMark 6 (withComments (quoted "A  B" ∷ [])) gives holds ∷
+    -- P9 Levels 1,2,3,3,2 have parents none,1,2,2,1
+    parentsIn (withLevel ("1" ∷ "2" ∷ "3" ∷ "3" ∷ "2" ∷ [])) gives (0 ∷ 1 ∷ 2 ∷ 2 ∷ 1 ∷ []) ∷
+    -- P10 Levels 1,3 break mark 78 at 2; 1,1 doesn't
+    ruleMark 78 (withLevel ("1" ∷ "3" ∷ [])) gives broken 2 ∷
+    ruleMark 78 (withLevel ("1" ∷ "1" ∷ [])) gives holds ∷
+    -- P11 Resources `[{"ID":"R1","Name":"Fitter"}]` is 19 at 27; `[{}]` is 19 at 2; `[]` holds
+    fileMark 16 "[{\"ID\":\"R1\",\"Name\":\"Fitter\"}]" gives mark 19 27 ∷
+    fileMark 16 "[{}]" gives mark 19 2 ∷
+    fileMark 16 "[]" gives holds ∷
+    -- P12 A changed file 9 touches marks 9, 25, 39–42, 51, 53, 55–57, 59, 60, 64, 71–74 and 80: 19 marks; 62 come back
+    touched 9 gives (9 ∷ 25 ∷ 39 ∷ 40 ∷ 41 ∷ 42 ∷ 51 ∷ 53 ∷ 55 ∷ 56 ∷ 57 ∷ 59 ∷ 60 ∷ 64 ∷ 71 ∷ 72 ∷ 73 ∷ 74 ∷ 80 ∷ []) ∷
+    (length (touched 9) ∷ length (comingBack 9) ∷ []) gives (19 ∷ 62 ∷ []) ∷
+    []
