@@ -12,7 +12,7 @@ pub const FIRST_RULE: usize = 20;
 pub const LAST_RULE: usize = 80;
 
 /// A rule by its shape. The table named first is the one whose records count.
-enum Rule {
+pub(crate) enum Rule {
     /// No record has the key of an earlier one.
     Key {
         file: usize,
@@ -51,7 +51,7 @@ enum Rule {
 
 use Enumeration::*;
 
-fn rule(number: usize) -> Rule {
+pub(crate) fn rule(number: usize) -> Rule {
     match number {
         20..=35 => Rule::Key { file: number - 16, fields: key_of(number - 16) },
 

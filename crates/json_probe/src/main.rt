@@ -2,8 +2,9 @@
 // one run. A case on standard input is five little-endian u32 (op, at, other, length of A, length of
 // B) and the bytes of A and of B; its answer on standard output is four little-endian u64. The
 // program ends where the input does, and at a case that is too long.
-ghost use Prim.Native.Nat.{_+_, _≤_, _<_};
+ghost use Prim.Native.Nat.{_+_, _≤_};
 ghost use lib.ListN.{length};
+use bundle_bytes::word_at;
 use json_bytes::Reading;
 use json_bytes::literal_at;
 use json_bytes::skip_spaces;
@@ -25,6 +26,8 @@ use json_text::TextType;
 use json_text::read_text;
 use libc::STDIN_FILENO;
 use libc::STDOUT_FILENO;
+use program_io::fill;
+use program_io::put_long;
 
 // Which answer it is, and up to three numbers that go with it.
 struct Answer {
@@ -211,32 +214,9 @@ fn answer_of(op: u32, s: &[u8], at: usize, t: &[u8], other: u32) -> Answer {
     }
 }
 
-// Fills a buffer from standard input; false where the input ends before.
-fn fill(buf: &mut [u8]) -> bool {
-    let n = buf.len();
-    if n == 0 {
-        return true;
-    }
-    io::read_full(STDIN_FILENO, buf) == n
-}
-
-fn wide(b: u8) -> u32
-    ensures { λ r. ⌜ r < 256 ⌝ }
-{
-    b as u32
-}
-
-// The little-endian number at a place of a case's header.
-fn word_at(header: &[u8; 20], i: usize) -> u32
-    requires { ⌜ i + 3 < 20 ⌝ }
-{
-    let low = wide(header[i]) + wide(header[i + 1]) * 256;
-    low + wide(header[i + 2]) * 65536 + wide(header[i + 3]) * 16777216
-}
-
 fn read_header() -> Header {
     let mut bytes = [0u8; 20];
-    if !fill(&mut bytes) {
+    if !fill(STDIN_FILENO, &mut bytes) {
         return Header::Nothing;
     }
     Header::Asks {
@@ -266,36 +246,23 @@ fn next_answer(a: &mut [u8], b: &mut [u8]) -> Next {
     if b.len() < m {
         return Next::End;
     }
-    if !fill(&mut a[..n]) {
+    if !fill(STDIN_FILENO, &mut a[..n]) {
         return Next::End;
     }
-    if !fill(&mut b[..m]) {
+    if !fill(STDIN_FILENO, &mut b[..m]) {
         return Next::End;
     }
     Next::Answered(answer_of(op, &a[..n], at, &b[..m], other))
-}
-
-// Writes a number into eight bytes, the lowest first.
-fn put(out: &mut [u8], at: usize, x: u64)
-    requires { ⌜ at + 8 ≤ length (now out) ⌝ }
-{
-    let mut rest = x;
-    let mut k = 0;
-    while k < 8 {
-        out[at + k] = (rest % 256) as u8;
-        rest = rest / 256;
-        k += 1;
-    }
 }
 
 // Writes an answer into 32 bytes.
 fn put_answer(out: &mut [u8], at: usize, answer: Answer)
     requires { ⌜ at + 32 ≤ length (now out) ⌝ }
 {
-    put(out, at, answer.t);
-    put(out, at + 8, answer.a);
-    put(out, at + 16, answer.b);
-    put(out, at + 24, answer.c);
+    put_long(out, at, answer.t);
+    put_long(out, at + 8, answer.a);
+    put_long(out, at + 16, answer.b);
+    put_long(out, at + 24, answer.c);
 }
 
 // Answers as many cases as the output has room for and writes the answers; whether to go on.

@@ -3,10 +3,14 @@
 // present, length) and the file's bytes; its answer on standard output is four little-endian u64
 // (kind, place, records, n) and the n cells of the records, each a little-endian u32. The program
 // ends where the input does, and at a case that is too long or of no file.
-ghost use Prim.Native.Nat.{_+_, _*_, _≤_, _<_};
+ghost use Prim.Native.Nat.{_+_, _*_, _≤_};
 ghost use lib.ListN.{length};
+use bundle_bytes::put_word;
+use bundle_bytes::word_at;
 use libc::STDIN_FILENO;
 use libc::STDOUT_FILENO;
+use program_io::fill;
+use program_io::put_long;
 use table_fields::field_count;
 use table_fields::field_names;
 use table_fields::field_rows;
@@ -56,32 +60,9 @@ fn answer_of(
     }
 }
 
-// Fills a buffer from standard input; false where the input ends before.
-fn fill(buf: &mut [u8]) -> bool {
-    let n = buf.len();
-    if n == 0 {
-        return true;
-    }
-    io::read_full(STDIN_FILENO, buf) == n
-}
-
-fn wide(b: u8) -> u32
-    ensures { λ r. ⌜ r < 256 ⌝ }
-{
-    b as u32
-}
-
-// The little-endian number at a place of a case's header.
-fn word_at(header: &[u8; 12], i: usize) -> u32
-    requires { ⌜ i + 3 < 12 ⌝ }
-{
-    let low = wide(header[i]) + wide(header[i + 1]) * 256;
-    low + wide(header[i + 2]) * 65536 + wide(header[i + 3]) * 16777216
-}
-
 fn read_header() -> Header {
     let mut bytes = [0u8; 12];
-    if !fill(&mut bytes) {
+    if !fill(STDIN_FILENO, &mut bytes) {
         return Header::Nothing;
     }
     Header::Asks {
@@ -102,27 +83,10 @@ fn next_answer(rows: &[u32], names: &[u8], buf: &mut [u8], cells: &mut [u32]) ->
     if buf.len() < n {
         return Next::End;
     }
-    if !fill(&mut buf[..n]) {
+    if !fill(STDIN_FILENO, &mut buf[..n]) {
         return Next::End;
     }
     Next::Answered(answer_of(file, present, &buf[..n], rows, names, cells))
-}
-
-// Writes a number into that many bytes, the lowest first.
-fn put(out: &mut [u8], at: usize, size: usize, x: u64)
-    requires { ⌜ at + size ≤ length (now out) ⌝ }
-{
-    let mut rest = x;
-    let mut k = 0;
-    while k < size {
-        out[at + k] = (rest % 256) as u8;
-        rest = rest / 256;
-        k += 1;
-    }
-}
-
-fn long(cell: u32) -> u64 {
-    cell as u64
 }
 
 // Writes the first n cells into four bytes each.
@@ -131,7 +95,7 @@ fn put_cells(out: &mut [u8], at: usize, cells: &[u32], n: usize)
 {
     let mut k = 0;
     while k < n {
-        put(out, at + 4 * k, 4, long(cells[k]));
+        put_word(out, at + 4 * k, cells[k]);
         k += 1;
     }
 }
@@ -160,10 +124,10 @@ fn put_answer(out: &mut [u8], at: usize, answer: Answer, cells: &[u32]) -> usize
     ensures { λ r. ⌜ (at + 32 ≤ r) × (r ≤ length (now (out .entry))) ⌝ }
 {
     let n = cell_count(answer.records, answer.count, cells.len());
-    put(out, at, 8, answer.kind);
-    put(out, at + 8, 8, answer.place);
-    put(out, at + 16, 8, answer.records as u64);
-    put(out, at + 24, 8, n as u64);
+    put_long(out, at, answer.kind);
+    put_long(out, at + 8, answer.place);
+    put_long(out, at + 16, answer.records as u64);
+    put_long(out, at + 24, n as u64);
     put_cells(out, at + 32, cells, n);
     at + 32 + 4 * n
 }

@@ -1,5 +1,6 @@
 //! A case of the JSON layer and its answer as bytes between two programs.
 
+use std::convert::Infallible;
 use std::io::{self, Read, Write};
 
 use super::answer::answer;
@@ -39,6 +40,7 @@ pub type Answer = [u64; 4];
 
 impl Question for Case {
     type Answer = Answer;
+    type Sight = Infallible;
 
     /// Five little-endian 32-bit numbers, then the bytes of both slices.
     fn write(&self, out: &mut impl Write) -> io::Result<()> {
@@ -70,7 +72,7 @@ impl Question for Case {
         write_four(out, answer)
     }
 
-    fn read_answer(input: &mut impl Read) -> Option<Answer> {
+    fn read_answer(&self, input: &mut impl Read) -> Option<Answer> {
         read_four(input)
     }
 

@@ -14,7 +14,7 @@ use std::io::{self, BufReader, BufWriter};
 use std::process::{Command, ExitCode};
 use std::time::Duration;
 
-use super::run::{compare_with_program, compare_with_self, serve, Numbered, Question, Tally};
+use super::run::{compare_with_program, compare_with_self, serve, Question, Run, Tally};
 
 const DEFAULT_SEED: u64 = 20_200_312;
 const DEFAULT_SECONDS: u64 = 600;
@@ -40,10 +40,10 @@ pub fn run<Q: Question>(name: &str, all_cases: fn(u64) -> Vec<Q>) -> ExitCode {
     let status = asked.and_then(|options| match &options.mode {
         Mode::Serve => Ok(serve_standard_input::<Q>()),
         Mode::Itself => compare(&options, &all_cases(options.seed), compare_with_self),
-        Mode::Compare(command) => compare(&options, &all_cases(options.seed), |cases| {
+        Mode::Compare(command) => compare(&options, &all_cases(options.seed), |run| {
             let mut program = Command::new(&command[0]);
             program.args(&command[1..]);
-            compare_with_program(&mut program, cases, options.time)
+            compare_with_program(&mut program, run, options.time)
         }),
     });
     status.unwrap_or_else(|message| {
@@ -94,17 +94,13 @@ fn serve_standard_input<Q: Question>() -> ExitCode {
 fn compare<Q: Question>(
     options: &Options,
     cases: &[Q],
-    ask: impl Fn(&[Numbered<Q>]) -> Tally,
+    ask: impl Fn(&Run<Q>) -> Tally,
 ) -> Result<ExitCode, String> {
-    let chosen: Vec<Numbered<Q>> = cases
-        .iter()
-        .enumerate()
-        .filter(|(number, _)| options.only.is_none_or(|only| only == *number))
-        .collect();
-    if chosen.is_empty() {
+    let run = Run { seed: options.seed, cases, only: options.only };
+    if run.count() == 0 {
         return Err(format!("there are only {} cases", cases.len()));
     }
-    Ok(report(&ask(&chosen)))
+    Ok(report(&ask(&run)))
 }
 
 fn report(tally: &Tally) -> ExitCode {

@@ -1,5 +1,7 @@
 //! Feeds cases to a program, or to this one, and compares every answer.
 
+use std::collections::BTreeSet;
+use std::fmt::Display;
 use std::io::{self, BufReader, BufWriter, Read, Write};
 use std::process::{Child, ChildStdin, Command, ExitStatus, Stdio};
 use std::sync::mpsc::{channel, Receiver, RecvTimeoutError};
@@ -16,6 +18,10 @@ const POLL: Duration = Duration::from_millis(5);
 pub trait Question: Sized + Sync {
     type Answer: PartialEq;
 
+    /// Something that a case and its answer can show; `Infallible` where no
+    /// sight is wanted.
+    type Sight: Ord + Display;
+
     fn write(&self, out: &mut impl Write) -> io::Result<()>;
 
     /// The next case, or nothing at the end of the input.
@@ -26,14 +32,42 @@ pub trait Question: Sized + Sync {
     fn write_answer(answer: &Self::Answer, out: &mut impl Write) -> io::Result<()>;
 
     /// The next answer, or nothing if no whole answer is left.
-    fn read_answer(input: &mut impl Read) -> Option<Self::Answer>;
+    fn read_answer(&self, input: &mut impl Read) -> Option<Self::Answer>;
 
     /// The case and what is wrong with its answer, in lines.
     fn describe(&self, expected: &Self::Answer, answered: &Self::Answer) -> String;
+
+    /// What all cases together have to show: a run that misses a sight would
+    /// pass without having asked what it is there to ask.
+    fn wanted() -> Vec<Self::Sight> {
+        Vec::new()
+    }
+
+    /// What this case and its right answer show.
+    fn sights(&self, _expected: &Self::Answer) -> Vec<Self::Sight> {
+        Vec::new()
+    }
 }
 
-/// A case and its number among all cases.
-pub type Numbered<'a, Q> = (usize, &'a Q);
+/// The cases of a seed, and which of them are asked: all, or one.
+pub struct Run<'a, Q> {
+    pub seed: u64,
+    pub cases: &'a [Q],
+    pub only: Option<usize>,
+}
+
+impl<'a, Q> Run<'a, Q> {
+    /// The cases that are asked, each with its number among all.
+    fn asked(&self) -> impl Iterator<Item = (usize, &'a Q)> {
+        let only = self.only;
+        let numbered = self.cases.iter().enumerate();
+        numbered.filter(move |(number, _)| only.is_none_or(|only| only == *number))
+    }
+
+    pub fn count(&self) -> usize {
+        self.asked().count()
+    }
+}
 
 /// How many answers were right, and what to say of those that were not.
 #[derive(Debug, Default)]
@@ -57,9 +91,8 @@ impl Tally {
 }
 
 /// Compares this program with itself, by way of the bytes that would be sent.
-pub fn compare_with_self<Q: Question>(cases: &[Numbered<Q>]) -> Tally {
-    let mut sent = cases.iter();
-    compare_answers(cases, || sent.next().and_then(|(_, case)| answer_by_bytes(*case)))
+pub fn compare_with_self<Q: Question>(run: &Run<Q>) -> Tally {
+    compare_answers(run, answer_by_bytes)
 }
 
 fn answer_by_bytes<Q: Question>(case: &Q) -> Option<Q::Answer> {
@@ -67,7 +100,7 @@ fn answer_by_bytes<Q: Question>(case: &Q) -> Option<Q::Answer> {
     case.write(&mut bytes).ok()?;
     let mut answered = Vec::new();
     serve::<Q>(&mut &bytes[..], &mut answered).ok()?;
-    Q::read_answer(&mut &answered[..])
+    case.read_answer(&mut &answered[..])
 }
 
 /// Answers every case of the input: what a program under test does.
@@ -82,33 +115,29 @@ pub fn serve<Q: Question>(input: &mut impl Read, output: &mut impl Write) -> io:
 /// is over is ended, and so has answered too little.
 pub fn compare_with_program<Q: Question>(
     command: &mut Command,
-    cases: &[Numbered<Q>],
+    run: &Run<Q>,
     time: Duration,
 ) -> Tally {
     match command.stdin(Stdio::piped()).stdout(Stdio::piped()).spawn() {
-        Ok(child) => compare_with_child(child, cases, time),
+        Ok(child) => compare_with_child(child, run, time),
         Err(error) => {
             let mut tally = Tally::default();
-            tally.fail(cases.len(), format!("the program can't be started: {error}"));
+            tally.fail(run.count(), format!("the program can't be started: {error}"));
             tally
         }
     }
 }
 
-fn compare_with_child<Q: Question>(
-    mut child: Child,
-    cases: &[Numbered<Q>],
-    time: Duration,
-) -> Tally {
+fn compare_with_child<Q: Question>(mut child: Child, run: &Run<Q>, time: Duration) -> Tally {
     let input = child.stdin.take().expect("standard input is piped");
     let mut output = BufReader::new(child.stdout.take().expect("standard output is piped"));
     let child = Mutex::new(child);
     let (done, is_done) = channel::<()>();
     thread::scope(|scope| {
         // Written beside the reading, so that neither pipe can fill up.
-        scope.spawn(|| send_all(input, cases));
+        scope.spawn(|| send_all(input, run));
         scope.spawn(|| end_when_late(&child, is_done, time));
-        let mut tally = compare_answers(cases, || Q::read_answer(&mut output));
+        let mut tally = compare_answers(run, |case| case.read_answer(&mut output));
         check_nothing_is_left(output, &mut tally);
         check_status(wait_for(&child), &mut tally);
         drop(done);
@@ -118,9 +147,9 @@ fn compare_with_child<Q: Question>(
 
 /// A program that stops reading is found out by its missing answers, so an
 /// error here only ends the writing. Dropping the pipe is the end of input.
-fn send_all<Q: Question>(input: ChildStdin, cases: &[Numbered<Q>]) {
+fn send_all<Q: Question>(input: ChildStdin, run: &Run<Q>) {
     let mut input = BufWriter::with_capacity(1 << 16, input);
-    for (_, case) in cases {
+    for (_, case) in run.asked() {
         if case.write(&mut input).is_err() {
             return;
         }
@@ -170,34 +199,47 @@ fn check_status(status: io::Result<ExitStatus>, tally: &mut Tally) {
 /// Compares each answer with this program's own. Once an answer is missing,
 /// it and all later ones are failures.
 fn compare_answers<Q: Question>(
-    cases: &[Numbered<Q>],
-    mut next: impl FnMut() -> Option<Q::Answer>,
+    run: &Run<Q>,
+    mut next: impl FnMut(&Q) -> Option<Q::Answer>,
 ) -> Tally {
     let mut tally = Tally::default();
-    for (index, &(number, case)) in cases.iter().enumerate() {
+    let mut seen = BTreeSet::new();
+    for (index, (number, case)) in run.asked().enumerate() {
         let expected = case.answer();
-        match next() {
+        seen.extend(case.sights(&expected));
+        match next(case) {
             Some(answered) if answered == expected => tally.passed += 1,
-            Some(answered) => tally.fail(1, describe(number, case, &expected, &answered)),
+            Some(answered) => {
+                let shown = case.describe(&expected, &answered);
+                tally.fail(1, format!("{}: {shown}", how_to_ask_again(run.seed, number)));
+            }
             None => {
-                let missing = cases.len() - index;
-                let asked = cases.len();
-                tally.fail(missing, format!("only {index} of {asked} answers came"));
-                break;
+                let asked = run.count();
+                tally.fail(asked - index, format!("only {index} of {asked} answers came"));
+                return tally;
             }
         }
+    }
+    if run.only.is_none() {
+        check_sights::<Q>(&seen, &mut tally);
     }
     tally
 }
 
 /// All it takes to run the case again by itself.
-fn describe<Q: Question>(
-    number: usize,
-    case: &Q,
-    expected: &Q::Answer,
-    answered: &Q::Answer,
-) -> String {
-    format!("case {number} (--only {number}): {}", case.describe(expected, answered))
+fn how_to_ask_again(seed: u64, number: usize) -> String {
+    format!("case {number} (--seed {seed} --only {number})")
+}
+
+/// Each wanted sight counts as a case of its own.
+fn check_sights<Q: Question>(seen: &BTreeSet<Q::Sight>, tally: &mut Tally) {
+    for wanted in Q::wanted() {
+        if seen.contains(&wanted) {
+            tally.passed += 1;
+        } else {
+            tally.fail(1, format!("no case shows this: {wanted}"));
+        }
+    }
 }
 
 /// The bytes as hex; of a slice of more than `most` only both ends.
@@ -223,37 +265,37 @@ mod tests {
         (0..4).map(case).collect()
     }
 
-    fn numbered(cases: &[Case]) -> Vec<Numbered<'_, Case>> {
-        cases.iter().enumerate().collect()
+    fn all<Q>(cases: &[Q]) -> Run<'_, Q> {
+        Run { seed: 5, cases, only: None }
     }
 
     #[test]
     fn right_answers_pass() {
         let cases = cases();
-        let tally = compare_with_self(&numbered(&cases));
+        let tally = compare_with_self(&all(&cases));
         assert_eq!(tally.last_line(), "4 passed, 0 failed");
+        let one = Run { seed: 5, cases: &cases, only: Some(3) };
+        assert_eq!(compare_with_self(&one).last_line(), "1 passed, 0 failed");
+        let none = Run { seed: 5, cases: &cases, only: Some(4) };
+        assert_eq!(none.count(), 0);
     }
 
     #[test]
     fn a_wrong_answer_is_shown() {
         let cases = cases();
-        let mut answers = cases.iter().map(Case::answer);
-        let mut asked = 0;
-        let tally = compare_answers(&numbered(&cases), || {
-            asked += 1;
-            answers.next().map(|right| if asked == 3 { [9; 4] } else { right })
+        let tally = compare_answers(&all(&cases), |case| {
+            Some(if case.at == 2 { [9; 4] } else { case.answer() })
         });
         assert_eq!(tally.last_line(), "3 passed, 1 failed");
-        assert!(
-            tally.messages[0].starts_with("case 2 (--only 2): op 1 at 2 other 0\n  A (3) 207820\n")
-        );
+        let shown = "case 2 (--seed 5 --only 2): op 1 at 2 other 0\n  A (3) 207820\n";
+        assert!(tally.messages[0].starts_with(shown));
     }
 
     #[test]
     fn each_number_of_a_reading_is_compared() {
         let contents = br#"[{"CustomFieldID":"F","Value":"V"}]"#.to_vec();
-        let case = TableCase { number: 5, contents: Some(contents) };
-        let right = case.answer();
+        let cases = [TableCase { number: 5, contents: Some(contents) }];
+        let right = cases[0].answer();
         let spoil: [fn(&mut TableAnswer); 6] = [
             |answer| answer.kind = 11,
             |answer| answer.place = 1,
@@ -265,19 +307,67 @@ mod tests {
         for spoil in spoil {
             let mut wrong = right.clone();
             spoil(&mut wrong);
-            let tally = compare_answers(&[(0, &case)], || Some(wrong.clone()));
+            let tally = compare_answers(&all(&cases), |_| Some(wrong.clone()));
             assert_eq!(tally.last_line(), "0 passed, 1 failed");
         }
-        let tally = compare_answers(&[(0, &case)], || Some(right.clone()));
+        let tally = compare_answers(&all(&cases), |_| Some(right.clone()));
         assert_eq!(tally.last_line(), "1 passed, 0 failed");
     }
 
     #[test]
     fn missing_answers_fail() {
         let cases = cases();
-        let mut answers = cases[..1].iter().map(Case::answer);
-        let tally = compare_answers(&numbered(&cases), || answers.next());
+        let first = |case: &Case| (case.at == 0).then(|| case.answer());
+        let tally = compare_answers(&all(&cases), first);
         assert_eq!(tally.last_line(), "1 passed, 3 failed");
+    }
+
+    /// A case that shows its own number; 0, 1 and 2 are wanted.
+    struct Shown(u32);
+
+    impl Question for Shown {
+        type Answer = ();
+        type Sight = u32;
+
+        fn write(&self, _: &mut impl Write) -> io::Result<()> {
+            Ok(())
+        }
+
+        fn read(_: &mut impl Read) -> io::Result<Option<Shown>> {
+            Ok(None)
+        }
+
+        fn answer(&self) {}
+
+        fn write_answer(_: &(), _: &mut impl Write) -> io::Result<()> {
+            Ok(())
+        }
+
+        fn read_answer(&self, _: &mut impl Read) -> Option<()> {
+            Some(())
+        }
+
+        fn describe(&self, _: &(), _: &()) -> String {
+            String::new()
+        }
+
+        fn wanted() -> Vec<u32> {
+            vec![0, 1, 2]
+        }
+
+        fn sights(&self, _: &()) -> Vec<u32> {
+            vec![self.0]
+        }
+    }
+
+    #[test]
+    fn a_missed_sight_fails() {
+        let cases = [Shown(2), Shown(0), Shown(7)];
+        let tally = compare_with_self(&all(&cases));
+        assert_eq!(tally.last_line(), "5 passed, 1 failed");
+        assert_eq!(tally.messages, ["no case shows this: 1"]);
+        let one = Run { seed: 5, cases: &cases, only: Some(0) };
+        assert_eq!(compare_with_self(&one).last_line(), "1 passed, 0 failed");
     }
 
     #[test]

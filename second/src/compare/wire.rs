@@ -41,8 +41,13 @@ fn fill_or_end(input: &mut impl Read, buffer: &mut [u8]) -> io::Result<bool> {
 }
 
 pub fn read_slice(input: &mut impl Read, length: u32) -> io::Result<Vec<u8>> {
+    read_slice_within(input, length, LONGEST)
+}
+
+/// A slice of that length, which may be at most `most`.
+pub fn read_slice_within(input: &mut impl Read, length: u32, most: usize) -> io::Result<Vec<u8>> {
     let length = length as usize;
-    if length > LONGEST {
+    if length > most {
         return Err(unsound("a slice is too long"));
     }
     let mut slice = vec![0; length];

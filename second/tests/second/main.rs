@@ -2,9 +2,11 @@
 
 mod changes;
 mod files;
+mod gate_harness;
 mod harness;
 mod places;
 mod points;
 mod rules;
-mod sample;
 mod tables_harness;
+
+use second::compare::gate::sample;

@@ -6,8 +6,8 @@ use std::process::{Command, Output};
 use second::compare::run::Question;
 use second::compare::tables::case::TableCase;
 use second::compare::tables::cases::all_cases;
+use second::compare::tables::possible_kinds;
 use second::compare::wire::LONGEST;
-use second::fields::{fields_of, Type};
 
 const MOST_BYTES: usize = 60_000_000;
 const LARGE: usize = 20_000;
@@ -48,30 +48,11 @@ fn one_seed_gives_the_same_cases() {
     assert!(all_cases(5) != all_cases(6));
 }
 
-/// The kinds that the mark of that file can have.
-fn possible_kinds(number: usize) -> BTreeSet<u64> {
-    if number == 0 {
-        return BTreeSet::from([0, 21, 22]);
-    }
-    let has_type = |types: &[Type]| fields_of(number).any(|field| types.contains(&field.kind));
-    let mut kinds: BTreeSet<u64> = (10..=16).chain([0]).collect();
-    let others = [
-        (17, has_type(&[Type::Date])),
-        (18, has_type(&[Type::Decimal, Type::Integer])),
-        (19, fields_of(number).any(|field| !field.nullable)),
-        // 4,096 records of file 10 are longer than a file may be.
-        (20, number > 3 && number != 10),
-        (21, [1, 3].contains(&number)),
-    ];
-    kinds.extend(others.iter().filter(|(_, possible)| *possible).map(|(kind, _)| kind));
-    kinds
-}
-
 #[test]
 fn every_kind_that_can_be_is_met_in_every_file() {
     let mut met = vec![BTreeSet::new(); 20];
     for case in all_cases(2) {
-        met[case.number as usize].insert(case.answer().kind);
+        met[case.number as usize].insert(case.answer().kind as u32);
     }
     for (number, kinds) in met.iter().enumerate() {
         assert_eq!(*kinds, possible_kinds(number), "file {number}");
@@ -132,7 +113,8 @@ fn one_wrong_byte_of_the_last_place_is_caught_and_shown() {
     let output = compare(&["--seed", "9", "--only", &number, "sh", "-c", &script]);
     assert_eq!(output.status.code(), Some(1));
     assert_eq!(last_line(&output), "0 passed, 1 failed");
-    assert!(text(&output).starts_with(&format!("case {number} (--only {number}): file ")));
+    let shown = format!("case {number} (--seed 9 --only {number}): file ");
+    assert!(text(&output).starts_with(&shown));
     assert!(text(&output).contains("\n  record 2 "));
 }
 

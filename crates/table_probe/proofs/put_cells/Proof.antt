@@ -17,23 +17,20 @@ abbrev μ-loop : tie.MeasureT-loop
 loop-holds : tie.Need-loop-holds Inv-loop μ-loop
 loop-holds c = omega arith
 
-mul-put : tie.Need-mul-put Inv-loop μ-loop
-mul-put c = omega arith
+mul-put-word : tie.Need-mul-put-word Inv-loop μ-loop
+mul-put-word c = omega arith
 
-add-put : tie.Need-add-put Inv-loop μ-loop
-add-put c = omega arith
+add-put-word : tie.Need-add-put-word Inv-loop μ-loop
+add-put-word c = omega arith
 
-mul-long : tie.Need-mul-long Inv-loop μ-loop
-mul-long c = omega arith
+mul-put-word-2 : tie.Need-mul-put-word-2 Inv-loop μ-loop
+mul-put-word-2 c = omega arith
 
-shared-slice-read-long : tie.Need-shared-slice-read-long Inv-loop μ-loop
-shared-slice-read-long c = omega arith
+shared-slice-read-put-word : tie.Need-shared-slice-read-put-word Inv-loop μ-loop
+shared-slice-read-put-word c = omega arith
 
-long-requires : tie.Need-long-requires Inv-loop μ-loop
-long-requires c κs = search needs
-
-put-requires : tie.Need-put-requires Inv-loop μ-loop
-put-requires c κs = search needs
+put-word-requires : tie.Need-put-word-requires Inv-loop μ-loop
+put-word-requires c κs = search needs
 
 add-k : tie.Need-add-k Inv-loop μ-loop
 add-k c = omega arith
@@ -57,12 +54,11 @@ put-cells-spec =
     Inv-loop
     μ-loop
     loop-holds
-    mul-put
-    add-put
-    mul-long
-    shared-slice-read-long
-    long-requires
-    put-requires
+    mul-put-word
+    add-put-word
+    mul-put-word-2
+    shared-slice-read-put-word
+    put-word-requires
     add-k
     loop-less
     loop-again

@@ -106,7 +106,7 @@ fn quoted(inner: &[u8]) -> Vec<u8> {
 
 /// How a character is written.
 #[derive(Clone, Copy)]
-enum Style {
+pub(super) enum Style {
     Raw,
     Short,
     LowerHex,
@@ -114,11 +114,11 @@ enum Style {
     MixedHex,
 }
 
-const STYLES: [Style; 5] =
+pub(super) const STYLES: [Style; 5] =
     [Style::Raw, Style::Short, Style::LowerHex, Style::UpperHex, Style::MixedHex];
 
 /// The character written in that style, or as an escape if it has to be one.
-fn written(code: u32, style: Style) -> Vec<u8> {
+pub(super) fn written(code: u32, style: Style) -> Vec<u8> {
     match style {
         Style::Raw => match char::from_u32(code) {
             Some(c) if code >= 0x20 && c != '"' && c != '\\' => c.to_string().into_bytes(),

@@ -1,6 +1,7 @@
 //! A case of the reading of one file and its answer as bytes between two
 //! programs, and what this program answers.
 
+use std::convert::Infallible;
 use std::io::{self, Read, Write};
 
 use crate::board::{Mark, HOLDS};
@@ -60,6 +61,7 @@ impl TableAnswer {
 
 impl Question for TableCase {
     type Answer = TableAnswer;
+    type Sight = Infallible;
 
     /// Three little-endian 32-bit numbers (the file's number, 1 if it is
     /// present, its length), then its bytes.
@@ -103,7 +105,7 @@ impl Question for TableCase {
 
     /// Of an answer with more cells than any right one has, no cell is read:
     /// it is wrong by its number of cells alone.
-    fn read_answer(input: &mut impl Read) -> Option<TableAnswer> {
+    fn read_answer(&self, input: &mut impl Read) -> Option<TableAnswer> {
         let [kind, place, records, count] = read_four(input)?;
         let read = if count <= MOST_CELLS { count } else { 0 };
         let cells: Option<Vec<u32>> = (0..read).map(|_| read_word(input).ok()).collect();
@@ -204,23 +206,24 @@ mod tests {
 
     #[test]
     fn an_answer_comes_back_from_its_bytes() {
-        let answer = case(6, r#"[{"ID":"C1","Name":"N","Comments":null}]"#).answer();
+        let case = case(6, r#"[{"ID":"C1","Name":"N","Comments":null}]"#);
+        let answer = case.answer();
         assert_eq!(answer.head(), [0, 0, 1, 6]);
         assert_eq!(answer.cells, [7, 11, 19, 22, 34, 0]);
         let bytes = answered(&answer);
         assert_eq!(bytes.len(), 32 + 6 * 4);
         assert_eq!(bytes[16..24], [1, 0, 0, 0, 0, 0, 0, 0]);
         assert_eq!(bytes[32..40], [7, 0, 0, 0, 11, 0, 0, 0]);
-        assert_eq!(TableCase::read_answer(&mut &bytes[..]), Some(answer));
-        assert_eq!(TableCase::read_answer(&mut &bytes[..bytes.len() - 1]), None);
-        assert_eq!(TableCase::read_answer(&mut &bytes[..31]), None);
+        assert_eq!(case.read_answer(&mut &bytes[..]), Some(answer));
+        assert_eq!(case.read_answer(&mut &bytes[..bytes.len() - 1]), None);
+        assert_eq!(case.read_answer(&mut &bytes[..31]), None);
     }
 
     #[test]
     fn an_answer_with_too_many_cells_is_not_read_on() {
         let bytes = answered(&TableAnswer::new(HOLDS, 1, vec![0; 2]));
         let huge = [&bytes[..24], &u64::MAX.to_le_bytes()[..]].concat();
-        let answer = TableCase::read_answer(&mut &huge[..]).unwrap();
+        let answer = omitted(4).read_answer(&mut &huge[..]).unwrap();
         assert_eq!((answer.count, answer.cells.len()), (u64::MAX, 0));
     }
 

@@ -1,5 +1,29 @@
 //! The reading of one file of a set: its own mark, the number of its records,
 //! and where each value stands.
 
+use std::collections::BTreeSet;
+
+use crate::fields::{fields_of, Type};
+use crate::table::is_singleton;
+
 pub mod case;
 pub mod cases;
+
+/// The kinds that the mark of that file can have, 0 among them.
+pub fn possible_kinds(number: usize) -> BTreeSet<u32> {
+    if number == 0 {
+        return BTreeSet::from([0, 21, 22]);
+    }
+    let has_type = |types: &[Type]| fields_of(number).any(|field| types.contains(&field.kind));
+    let mut kinds: BTreeSet<u32> = (10..=16).chain([0]).collect();
+    let others = [
+        (17, has_type(&[Type::Date])),
+        (18, has_type(&[Type::Decimal, Type::Integer])),
+        (19, fields_of(number).any(|field| !field.nullable)),
+        // 4,096 records of file 10 are longer than a file may be.
+        (20, !is_singleton(number) && number != 10),
+        (21, [1, 3].contains(&number)),
+    ];
+    kinds.extend(others.iter().filter(|(_, possible)| *possible).map(|(kind, _)| kind));
+    kinds
+}

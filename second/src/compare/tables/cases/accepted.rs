@@ -1,9 +1,9 @@
 //! Files that hold: all fields or few, in any order, names and values written
 //! in many ways, so that places are tested.
 
-use super::draft::{file_tokens, quoted, spaced, Draft};
+use super::draft::{file_tokens, quoted, random_gap, spaced, Draft};
 use super::values::{good_value, good_values, may_be_empty};
-use super::{record_places, tables, Cases, FOUR_SPACES};
+use super::{record_places, tables, Cases};
 use crate::compare::random::Random;
 use crate::fields::{fields_of, Field};
 
@@ -104,12 +104,4 @@ fn random_name(name: &str, random: &mut Random) -> Vec<u8> {
         })
         .collect();
     quoted(&letters.concat())
-}
-
-/// One to three spaces, once in so many gaps.
-pub(super) fn random_gap(random: &mut Random, often: usize) -> Vec<u8> {
-    if random.below(often) > 0 {
-        return Vec::new();
-    }
-    (0..1 + random.below(3)).flat_map(|_| random.pick(&FOUR_SPACES)).copied().collect()
 }

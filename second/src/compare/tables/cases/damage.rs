@@ -1,8 +1,7 @@
 //! Small samples of every file, cut at every length, with a byte or a token
 //! changed, taken out or put in at every place.
 
-use super::accepted::random_gap;
-use super::draft::{file_tokens, spaced, Draft, Token};
+use super::draft::{file_tokens, random_gap, spaced, Draft, Token};
 use super::values::good_value;
 use super::{inserted, removed, replaced, tables, Cases, ODD_BYTES};
 use crate::fields::fields_of;

@@ -1,8 +1,8 @@
 //! Random mixes: files that hold with some bytes or tokens changed, and tokens
 //! in any order.
 
-use super::accepted::{random_draft, random_file, random_gap};
-use super::draft::{file_tokens, quoted, spaced, Token};
+use super::accepted::{random_draft, random_file};
+use super::draft::{file_tokens, quoted, random_gap, spaced, Token};
 use super::values::VALUES;
 use super::{Cases, ODD_BYTES};
 use crate::fields::fields_of;

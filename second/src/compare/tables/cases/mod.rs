@@ -12,7 +12,7 @@ mod spaces;
 mod values;
 mod whole;
 
-use self::draft::{text, Draft};
+use self::draft::{text, Draft, FOUR_SPACES};
 use super::case::TableCase;
 use crate::compare::random::Random;
 use crate::compare::wire::LONGEST;
@@ -99,9 +99,6 @@ const ODD_BYTES: [u8; 42] = [
     b'/', b'0', b'1', b'9', b':', b'A', b'E', b'[', b'\\', b']', b'e', b'n', b't', b'u', b'{',
     b'}', 0x7F, 0x80, 0xBF, 0xC1, 0xC2, 0xE0, 0xED, 0xF0, 0xF4, 0xF5, 0xFF,
 ];
-
-/// The four spaces of JSON.
-const FOUR_SPACES: [&[u8]; 4] = [b" ", b"\t", b"\n", b"\r"];
 
 fn replaced(bytes: &[u8], at: usize, byte: u8) -> Vec<u8> {
     let mut changed = bytes.to_vec();

@@ -1,0 +1,14 @@
+-- `file_names::tails` meets its contract: the code's bytes are the document's names, computed.
+use mathlib.Core.Path.{refl}
+use mathlib.Core.List.{flatten}
+use Rattle.table_fields.specs.Ascii.{codes}
+use Rattle.file_names.specs.Names.{fileNames, tails, allTails}
+use Rattle.file_names.proofs.tails.Statement.{statement}
+use Rattle.file_names.proofs.tails.Tie as tie
+
+returns : tie.Need-returns
+unfolding allTails flatten tails fileNames codes
+returns c = refl
+
+pub tails-spec : {M : Type 1} → statement M
+tails-spec = tie.close (tie.spec returns)

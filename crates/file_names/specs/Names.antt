@@ -1,0 +1,52 @@
+-- The names under which the 20 files of a set stand in a folder: document 01, "File numbers", with the endings that
+-- document 002 gives the tables.
+use Prim.Native.Nat.{ℕ, _+_}
+use mathlib.Core.Bool.{cond, _&&_}
+use mathlib.Core.List.{List, [], _∷_, map, flatten}
+use lib.ListN.{length, getD}
+use lib.Dec.{leb, ltb}
+use Rattle.table_fields.specs.Ascii.{codes}
+use Rattle.table_fields.specs.Flat.{countBefore}
+
+unfoldable pub fileNames : List (List ℕ)
+fileNames =
+    codes "FileType.txt" ∷
+    codes "DatasetMetadata.json" ∷
+    codes "SourceSoftwareMetadata.json" ∷
+    codes "ProjectScheduleData.json" ∷
+    codes "ProjectCustomFieldDefinitions.json" ∷
+    codes "ProjectCustomFieldValues.json" ∷
+    codes "Calendars.json" ∷
+    codes "CalendarWorkshifts.json" ∷
+    codes "CalendarExceptions.json" ∷
+    codes "Tasks.json" ∷
+    codes "TaskScheduleData.json" ∷
+    codes "TaskCustomFieldDefinitions.json" ∷
+    codes "TaskCustomFieldValues.json" ∷
+    codes "TaskConstraints.json" ∷
+    codes "TaskRelationships.json" ∷
+    codes "TaskOutlineStructure.json" ∷
+    codes "Resources.json" ∷
+    codes "ResourceCustomFieldDefinitions.json" ∷
+    codes "ResourceCustomFieldValues.json" ∷
+    codes "ResourceAssignments.json" ∷ []
+
+-- each behind a slash, as it stands in a path
+unfoldable pub tails : List (List ℕ)
+tails = map (λ name. 47 ∷ name) fileNames
+
+-- a slash and a file's name; nothing for a number over 19
+unfoldable pub tailOf : ℕ → List ℕ
+tailOf file = getD tails file []
+
+-- the length of a file's path in a folder whose name has `folder` bytes; 0 where the path has no room, and for a number over 19
+unfoldable pub pathLength : List ℕ → ℕ → ℕ → ℕ
+pathLength path folder file =
+    cond (ltb file 20 && leb (folder + length (tailOf file)) (length path)) (folder + length (tailOf file)) 0
+
+-- ---- laid out flat, as the code holds them
+unfoldable pub allTails : List ℕ
+allTails = flatten tails
+
+unfoldable pub tailStart : ℕ → ℕ
+tailStart file = countBefore tails file

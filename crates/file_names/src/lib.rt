@@ -1,0 +1,72 @@
+// The names of the 20 files of a set, and a file's path in a folder.
+ghost use mathlib.Core.Path.{_≡_};
+ghost use Rattle.bundle_bytes.specs.Pieces.{written};
+ghost use Rattle.file_names.specs.Names.{allTails, tailStart, tailOf, pathLength};
+use bundle_bytes::put_part;
+use table_fields::part;
+
+// The names one behind the other, each behind a slash, as it stands in a path.
+const TAILS: [u8; 484] =
+    *b"/FileType.txt/DatasetMetadata.json/SourceSoftwareMetadata.json/ProjectScheduleData.json/ProjectCustomFieldDefinitions.json/ProjectCustomFieldValues.json/Calendars.json/CalendarWorkshifts.json/CalendarExceptions.json/Tasks.json/TaskScheduleData.json/TaskCustomFieldDefinitions.json/TaskCustomFieldValues.json/TaskConstraints.json/TaskRelationships.json/TaskOutlineStructure.json/Resources.json/ResourceCustomFieldDefinitions.json/ResourceCustomFieldValues.json/ResourceAssignments.json";
+
+const STARTS: [usize; 21] = [
+    0,
+    13,
+    34,
+    62,
+    87,
+    122,
+    152,
+    167,
+    191,
+    215,
+    226,
+    248,
+    280,
+    307,
+    328,
+    351,
+    377,
+    392,
+    428,
+    459,
+    484,
+];
+
+fn tails() -> [u8; 484]
+    ensures { λ r. ⌜ r ≡ allTails ⌝ }
+{
+    TAILS
+}
+
+// Where a file's name starts among them; over 19, their length.
+fn tail_start(file: usize) -> usize
+    ensures { λ r. ⌜ r ≡ tailStart file ⌝ }
+{
+    if file < 20 {
+        return STARTS[file];
+    }
+    STARTS[20]
+}
+
+// Makes the path of a file in the folder whose name is the first `folder` bytes of `path`: writes a
+// slash and the file's name behind them, and answers the path's length. Where there is no room, and
+// for a number over 19, it writes nothing and answers 0.
+pub fn put_path(path: &mut [u8], folder: usize, file: usize) -> usize
+    ensures { λ r. ⌜ r ≡ pathLength (now (path .entry)) folder file ⌝ }
+    ensures { λ _. ⌜ now (path .exit) ≡ written (now (path .entry)) folder (tailOf file) ⌝ }
+{
+    if 19 < file {
+        return 0;
+    }
+    let tails = tails();
+    let tail = part(&tails, tail_start(file), tail_start(file + 1));
+    if path.len() < tail.len() {
+        return 0;
+    }
+    if path.len() - tail.len() < folder {
+        return 0;
+    }
+    put_part(path, folder, tail);
+    folder + tail.len()
+}

@@ -1,0 +1,19 @@
+-- What can be said of an answer, whatever stands outside.
+use Prim.Native.Nat.{ℕ, _≤_}
+use mathlib.Core.Path.{_≡_}
+use mathlib.Core.Logic.{_⊎_}
+use mathlib.Core.List.{List}
+use lib.ListN.{length, take}
+use Rattle.bundle_layout.specs.Bundle.{bundleFault}
+use Rattle.folder.specs.declared.Found.{Found}
+use Rattle.folder.specs.declared.Found.the-variants.{Bytes, Nothing, Failed}
+
+-- a file that was read into a buffer of that length
+abbrev pub Within : Found → ℕ → Type 0
+Within (Bytes n) most = n ≤ most
+Within Nothing most = Unit {0}
+Within Failed most = Unit {0}
+
+-- no bundle, 0, or one of that length at the front of a buffer that is not refused
+abbrev pub Bundled : ℕ → List ℕ → Type 0
+Bundled r s = (r ≡ 0) ⊎ ((r ≤ length s) × (bundleFault 20 (take r s) ≡ 0))

@@ -1,0 +1,4 @@
+pub mod Laws
+pub mod Marks
+pub mod Demand3
+pub mod Refusals

@@ -1,0 +1,3 @@
+pub mod Gate
+pub mod Again
+pub mod Sequence

@@ -1,0 +1,244 @@
+// Answers cases of the whole gate, so that a test can ask the compiled code thousands of them in one
+// run. All numbers are little-endian u32. A case on standard input is seven numbers (what is asked, the
+// bundle's length, a file number, 1 for new bytes, their length, the output's length, a seed), the
+// bundle, for a change the handed board as 81 pairs of kind and place, and the new bytes.
+//   0 judge:  refusal, 81 pairs
+//   1 try:    refusal, 81 pairs
+//   2 make:   refusal, the new bundle's length, 81 pairs, the output, whose byte i was before
+//             the seed and 7 i together, its lowest eight bits
+//   3 lookup: 0 present, 1 omitted or 2 refused, refusal, length, the file
+// The program ends where the input does, and at a case that is too long or asks nothing known.
+ghost use Prim.Native.Nat.{_≤_};
+ghost use mathlib.Core.Path.{_≡_};
+ghost use lib.ListN.{length};
+use board::Board;
+use bundle::FileState;
+use bundle::file_part;
+use bundle::file_state;
+use bundle_bytes::put_word;
+use bundle_bytes::word_at;
+use gate::Verdict;
+use gate::judge;
+use gate::make_change;
+use gate::try_change;
+use libc::STDIN_FILENO;
+use libc::STDOUT_FILENO;
+use program_io::fill;
+use table_fields::part;
+
+// Fills the front of a buffer, where it is long enough.
+fn fill_front(buf: &mut [u8], n: usize) -> bool {
+    if buf.len() < n {
+        return false;
+    }
+    fill(STDIN_FILENO, &mut buf[..n])
+}
+
+// Takes a board's lists from 81 pairs.
+fn get_board(bytes: &[u8], kinds: &mut [u32], places: &mut [usize])
+    requires { ⌜ (length (now kinds) ≡ 81) × (length (now places) ≡ 81) ⌝ }
+{
+    let mut m = 0;
+    while m < 81 {
+        kinds[m] = word_at(bytes, 8 * m);
+        places[m] = word_at(bytes, 8 * m + 4) as usize;
+        m += 1;
+    }
+}
+
+fn read_board() -> Board {
+    let mut bytes = [0u8; 648];
+    let mut kinds = [0u32; 81];
+    let mut places = [0usize; 81];
+    fill(STDIN_FILENO, &mut bytes);
+    get_board(&bytes, &mut kinds, &mut places);
+    Board { kinds, places }
+}
+
+fn low(x: usize) -> u32 {
+    (x % 4294967296) as u32
+}
+
+// Writes a board's lists as 81 pairs from a place on.
+fn put_board(out: &mut [u8], at: usize, kinds: &[u32], places: &[usize])
+    requires { ⌜ (at ≤ 8) × (length (now kinds) ≡ 81) × (length (now places) ≡ 81) ⌝ }
+{
+    let mut m = 0;
+    while m < 81 {
+        put_word(out, at + 8 * m, kinds[m]);
+        put_word(out, at + 8 * m + 4, low(places[m]));
+        m += 1;
+    }
+}
+
+fn write_verdict(verdict: Verdict) -> bool {
+    let mut out = [0u8; 652];
+    let board = verdict.board;
+    let kinds = board.kinds;
+    let places = board.places;
+    put_word(&mut out, 0, verdict.refusal);
+    put_board(&mut out, 4, &kinds, &places);
+    io::write_all(STDOUT_FILENO, &out)
+}
+
+// The same with the new bundle's length.
+fn write_made(verdict: Verdict) -> bool {
+    let mut out = [0u8; 656];
+    let board = verdict.board;
+    let kinds = board.kinds;
+    let places = board.places;
+    put_word(&mut out, 0, verdict.refusal);
+    put_word(&mut out, 4, low(verdict.length));
+    put_board(&mut out, 8, &kinds, &places);
+    io::write_all(STDOUT_FILENO, &out)
+}
+
+fn write_part(bytes: &[u8]) -> bool {
+    if bytes.len() == 0 {
+        return true;
+    }
+    io::write_all(STDOUT_FILENO, bytes)
+}
+
+fn pattern(seed: usize, i: usize) -> u8 {
+    ((seed % 256 + i % 256 * 7) % 256) as u8
+}
+
+// Puts the pattern into an output.
+fn lay(out: &mut [u8], seed: usize) {
+    let mut i = 0;
+    while i < out.len() {
+        out[i] = pattern(seed, i);
+        i += 1;
+    }
+}
+
+// Makes a change into the whole of an output.
+fn make<'a>(
+    bundle: &'a [u8],
+    board: Board,
+    k: usize,
+    present: bool,
+    new: &'a [u8],
+    out: &mut [u8],
+    seed: usize,
+) -> bool {
+    lay(out, seed);
+    let verdict = make_change(bundle, board, k, present, new, out);
+    if write_made(verdict) {
+        return write_part(out);
+    }
+    false
+}
+
+// The same into the front of an output, where it is long enough.
+fn make_front<'a>(
+    bundle: &'a [u8],
+    board: Board,
+    k: usize,
+    present: bool,
+    new: &'a [u8],
+    out: &mut [u8],
+    z: usize,
+    seed: usize,
+) -> bool {
+    if out.len() < z {
+        return false;
+    }
+    make(bundle, board, k, present, new, &mut out[..z], seed)
+}
+
+fn state_of(state: FileState) -> u32 {
+    match state {
+        FileState::Present => 0,
+        FileState::Omitted => 1,
+        FileState::Refused { number: _ } => 2,
+    }
+}
+
+fn refusal_of(state: FileState) -> u32 {
+    match state {
+        FileState::Present => 0,
+        FileState::Omitted => 0,
+        FileState::Refused { number } => number,
+    }
+}
+
+fn look_up(bundle: &[u8], k: usize) -> bool {
+    let mut out = [0u8; 12];
+    let file = file_part(bundle, 20, k);
+    put_word(&mut out, 0, state_of(file_state(bundle, 20, k)));
+    put_word(&mut out, 4, refusal_of(file_state(bundle, 20, k)));
+    put_word(&mut out, 8, low(file.len()));
+    if io::write_all(STDOUT_FILENO, &out) {
+        return write_part(file);
+    }
+    false
+}
+
+fn change(
+    op: u32,
+    bundle: &[u8],
+    k: usize,
+    present: bool,
+    news: &mut [u8],
+    w: usize,
+    out: &mut [u8],
+    z: usize,
+    seed: usize,
+) -> bool {
+    let board = read_board();
+    if !fill_front(news, w) {
+        return false;
+    }
+    let new = part(news, 0, w);
+    if op == 1 {
+        return write_verdict(try_change(bundle, board, k, present, new));
+    }
+    make_front(bundle, board, k, present, new, out, z, seed)
+}
+
+// Answers the next case; whether to go on.
+fn answer(buf: &mut [u8], news: &mut [u8], out: &mut [u8]) -> bool {
+    let mut head = [0u8; 28];
+    if !fill(STDIN_FILENO, &mut head) {
+        return false;
+    }
+    let op = word_at(&head, 0);
+    let n = word_at(&head, 4) as usize;
+    let k = word_at(&head, 8) as usize;
+    let present = word_at(&head, 12) == 1;
+    let w = word_at(&head, 16) as usize;
+    let z = word_at(&head, 20) as usize;
+    let seed = word_at(&head, 24) as usize;
+    if 3 < op {
+        return false;
+    }
+    if !fill_front(buf, n) {
+        return false;
+    }
+    let bundle = part(buf, 0, n);
+    if op == 0 {
+        return write_verdict(judge(bundle));
+    }
+    if op == 3 {
+        return look_up(bundle, k);
+    }
+    change(op, bundle, k, present, news, w, out, z, seed)
+}
+
+// A proved loop has to end, and nothing says that the input does. So the loop counts its turns
+// down, from a number that no run uses up.
+fn answer_all(buf: &mut [u8], news: &mut [u8], out: &mut [u8]) {
+    let mut turns = u64::MAX;
+    while turns > 0 && answer(buf, news, out) {
+        turns -= 1;
+    }
+}
+
+fn main() {
+    let mut buf = [0u8; 1048577];
+    let mut news = [0u8; 1048577];
+    let mut out = [0u8; 1048577];
+    answer_all(&mut buf, &mut news, &mut out);
+}

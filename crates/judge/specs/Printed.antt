@@ -1,0 +1,13 @@
+-- What the judging program prints of a bundle: document 01, "The judging program".
+use Prim.Native.Nat.{ℕ}
+use mathlib.Core.Bool.{cond}
+use mathlib.Core.List.{List}
+use lib.ListN.{length}
+use lib.Dec.{ltb}
+use Rattle.report.specs.Report.{refusalText, reportOf}
+use Rattle.gate.specs.Gate.{judgement}
+
+-- "over 65,536 bytes is `bundle 1`"
+unfoldable pub printed : List ℕ → List ℕ
+printed s =
+    cond (ltb 65536 (length s)) (refusalText 1) (reportOf (judgement s .refusal) (judgement s .board))

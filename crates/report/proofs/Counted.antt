@@ -1,0 +1,62 @@
+-- The count on the last line is that of the lines before it: a line has one line feed, at its end, and a number has none.
+-- Assumes nothing.
+use Prim.Native.Nat.{ℕ, zero, suc, _+_, _/_, _%_}
+use mathlib.Core.Path.{_≡_, refl, ap, _∙_}
+use mathlib.Core.Bool.{Bool, true, false, cond}
+use mathlib.Core.List.{List, [], _∷_, _++_}
+use native.Mathlib.Omega.{arith}
+use borrow.Author.Tests.{ne-eqb, ltb-true, ltb-false}
+use lib.ListN.{getD}
+use lib.Dec.{ltb, eqb}
+use Rattle.table_fields.specs.Ascii.{codes}
+use Rattle.bundle_bytes.specs.Pieces.{joined}
+use Rattle.rules.specs.declared.Mark.{Mark}
+use Rattle.board.specs.Board.{markIn, faultsUpTo, faultsOf}
+use Rattle.board.specs.declared.Board.{Board}
+use Rattle.report.specs.Report.{digitsIn, decimal, lineOf, lineIn, linesUpTo}
+use Rattle.report.proofs.Laws.{digits-last, digits-more}
+
+unfoldable pub feedsIn : List ℕ → ℕ
+feedsIn [] = 0
+feedsIn (b ∷ s) = feedsIn s + cond (eqb b 10) 1 0
+
+feeds-append : (s t : List ℕ) → feedsIn (s ++ t) ≡ feedsIn s + feedsIn t
+unfolding feedsIn
+feeds-append [] t = omega arith
+feeds-append (b ∷ s) t = omega (arith, feeds-append s t)
+
+other-byte : (b : ℕ) → (b ≡ 10 → ⊥) → feedsIn (b ∷ []) ≡ 0
+unfolding feedsIn
+other-byte b n = rw (ne-eqb b 10 n)
+
+digits-feeds : (f x : ℕ) → feedsIn (digitsIn f x) ≡ 0
+unfolding feedsIn digitsIn
+digits-feeds zero x = refl
+digits-feeds (suc f) x = go (digits-feeds f (x / 10)) (ltb x 10) refl
+  where
+    go : feedsIn (digitsIn f (x / 10)) ≡ 0 → (t : Bool) → ltb x 10 ≡ t → feedsIn (digitsIn (suc f) x) ≡ 0
+    go h true e = ap feedsIn (digits-last f x (ltb-true x 10 e)) ∙ other-byte (48 + x) (omega arith)
+    go h false e =
+        ap feedsIn (digits-more f x (ltb-false x 10 e)) ∙ omega (arith, feeds-append (digitsIn f (x / 10)) ((48 + x % 10) ∷ []), h, other-byte (48 + x % 10) (omega arith))
+
+decimal-feeds : (x : ℕ) → feedsIn (decimal x) ≡ 0
+unfolding decimal
+decimal-feeds x = digits-feeds (suc x) x
+
+line-feeds : (m : ℕ) (mark : Mark) → feedsIn (lineOf m mark) ≡ 1
+unfolding lineOf codes feedsIn
+line-feeds m mark = simp (feeds-append, decimal-feeds)
+
+-- the lines of the marks below n are as many as the faults among them
+pub lines-counted : (board : Board) (n : ℕ) → feedsIn (linesUpTo board n) ≡ faultsUpTo (board .kinds) n
+unfolding linesUpTo joined lineIn markIn faultsUpTo feedsIn
+lines-counted board zero = refl
+lines-counted board (suc n) = feeds-append (joined (lineIn board) n) (lineIn board n) ∙ go (eqb (getD (board .kinds) n 0) 0) (lines-counted board n)
+  where
+    go : (t : Bool) → feedsIn (joined (lineIn board) n) ≡ faultsUpTo (board .kinds) n → feedsIn (joined (lineIn board) n) + feedsIn (cond t [] (lineOf n (markIn board n))) ≡ cond t (faultsUpTo (board .kinds) n) (faultsUpTo (board .kinds) n + 1)
+    go true h = omega arith
+    go false h = omega (arith, line-feeds n (markIn board n))
+
+pub last-count : (board : Board) → feedsIn (linesUpTo board 81) ≡ faultsOf board
+unfolding faultsOf
+last-count board = lines-counted board 81

@@ -1,0 +1,251 @@
+//! The answers of the gate as bytes between two programs.
+
+use std::io::{self, Read, Write};
+
+use super::case::LONGEST;
+use crate::board::{Board, Mark, MARKS};
+use crate::compare::wire::{read_slice_within, read_word, write_words};
+use crate::gate::Verdict;
+
+/// A board is sent as 81 pairs of 32-bit numbers.
+pub const BOARD_BYTES: usize = 8 * MARKS;
+
+const MOST_MARKS_SHOWN: usize = 10;
+
+#[derive(Clone, Debug, PartialEq, Eq)]
+pub enum Answer {
+    /// Of a judgement and of a try.
+    Judged { refusal: u32, board: Board },
+    /// Of a made change. The length is that of the new bundle; the output is
+    /// all of it, with what stands behind the bundle.
+    Made { refusal: u32, length: u32, board: Board, output: Vec<u8> },
+    /// Of a lookup.
+    Found(Part),
+}
+
+/// State 0 is present, 1 omitted, 2 refused. The length is the one answered.
+#[derive(Clone, Debug, PartialEq, Eq)]
+pub struct Part {
+    pub state: u32,
+    pub refusal: u32,
+    pub length: u32,
+    pub bytes: Vec<u8>,
+}
+
+impl Answer {
+    pub(super) fn judged(verdict: Verdict) -> Answer {
+        Answer::Judged { refusal: verdict.refusal, board: verdict.board }
+    }
+
+    pub(super) fn write(&self, out: &mut impl Write) -> io::Result<()> {
+        match self {
+            Answer::Judged { refusal, board } => {
+                write_words(out, &[*refusal])?;
+                write_board(out, board)
+            }
+            Answer::Made { refusal, length, board, output } => {
+                write_words(out, &[*refusal, *length])?;
+                write_board(out, board)?;
+                out.write_all(output)
+            }
+            Answer::Found(Part { state, refusal, length, bytes }) => {
+                write_words(out, &[*state, *refusal, *length])?;
+                out.write_all(bytes)
+            }
+        }
+    }
+
+    pub(super) fn read_judged(input: &mut impl Read) -> io::Result<Answer> {
+        Ok(Answer::Judged { refusal: read_word(input)?, board: read_board(input)? })
+    }
+
+    pub(super) fn read_made(input: &mut impl Read, output: u32) -> io::Result<Answer> {
+        Ok(Answer::Made {
+            refusal: read_word(input)?,
+            length: read_word(input)?,
+            board: read_board(input)?,
+            output: read_slice_within(input, output, LONGEST)?,
+        })
+    }
+
+    /// Of a part longer than any bundle no byte is read: it is wrong by its
+    /// length alone.
+    pub(super) fn read_found(input: &mut impl Read) -> io::Result<Answer> {
+        let state = read_word(input)?;
+        let refusal = read_word(input)?;
+        let length = read_word(input)?;
+        let read = if length as usize <= LONGEST { length } else { 0 };
+        let bytes = read_slice_within(input, read, LONGEST)?;
+        Ok(Answer::Found(Part { state, refusal, length, bytes }))
+    }
+
+    /// The refusal, or 0.
+    pub fn refusal(&self) -> u32 {
+        match self {
+            Answer::Judged { refusal, .. } | Answer::Made { refusal, .. } => *refusal,
+            Answer::Found(part) => part.refusal,
+        }
+    }
+
+    fn board(&self) -> Option<&Board> {
+        match self {
+            Answer::Judged { board, .. } | Answer::Made { board, .. } => Some(board),
+            Answer::Found(_) => None,
+        }
+    }
+
+    fn bytes(&self) -> &[u8] {
+        match self {
+            Answer::Judged { .. } => &[],
+            Answer::Made { output, .. } => output,
+            Answer::Found(part) => &part.bytes,
+        }
+    }
+
+    /// The numbers before the board and the bytes.
+    fn head(&self) -> String {
+        match self {
+            Answer::Judged { refusal, .. } => format!("refusal {refusal}"),
+            Answer::Made { refusal, length, .. } => format!("refusal {refusal} length {length}"),
+            Answer::Found(Part { state, refusal, length, .. }) => {
+                format!("state {state} refusal {refusal} length {length}")
+            }
+        }
+    }
+}
+
+pub(super) fn write_board(out: &mut impl Write, board: &Board) -> io::Result<()> {
+    for mark in &board.marks {
+        write_words(out, &[mark.kind, mark.place])?;
+    }
+    Ok(())
+}
+
+pub(super) fn read_board(input: &mut impl Read) -> io::Result<Board> {
+    let mut board = Board::fresh();
+    for mark in &mut board.marks {
+        *mark = Mark { kind: read_word(input)?, place: read_word(input)? };
+    }
+    Ok(board)
+}
+
+/// What differs between two answers to one case, in lines.
+pub(super) fn differences(expected: &Answer, answered: &Answer) -> Vec<String> {
+    let mut lines = Vec::new();
+    if expected.head() != answered.head() {
+        lines.push(format!("  expected {}", expected.head()));
+        lines.push(format!("  answered {}", answered.head()));
+    }
+    if let (Some(expected), Some(answered)) = (expected.board(), answered.board()) {
+        lines.extend(board_differences(expected, answered));
+    }
+    lines.extend(byte_difference(expected.bytes(), answered.bytes()));
+    lines
+}
+
+fn board_differences(expected: &Board, answered: &Board) -> Vec<String> {
+    let pairs = expected.marks.iter().zip(&answered.marks).enumerate();
+    let mut lines: Vec<String> = pairs
+        .filter(|(_, (expected, answered))| expected != answered)
+        .map(|(number, (expected, answered))| {
+            let (kind, place) = (expected.kind, expected.place);
+            let (wrong, at) = (answered.kind, answered.place);
+            format!("  mark {number}: expected {kind} at {place}, answered {wrong} at {at}")
+        })
+        .collect();
+    if lines.len() > MOST_MARKS_SHOWN {
+        let more = lines.len() - MOST_MARKS_SHOWN;
+        lines.truncate(MOST_MARKS_SHOWN);
+        lines.push(format!("  and {more} more marks"));
+    }
+    lines
+}
+
+fn byte_difference(expected: &[u8], answered: &[u8]) -> Option<String> {
+    let at = expected.iter().zip(answered).position(|(a, b)| a != b)?;
+    let (right, wrong) = (expected[at], answered[at]);
+    Some(format!("  byte {at}: expected {right:02x}, answered {wrong:02x}"))
+}
+
+#[cfg(test)]
+mod tests {
+    use super::*;
+
+    fn board() -> Board {
+        let mut board = Board::fresh();
+        board.marks[80] = Mark { kind: 1, place: u32::MAX };
+        board
+    }
+
+    fn made(output: &[u8]) -> Answer {
+        Answer::Made { refusal: 0, length: 3, board: board(), output: output.to_vec() }
+    }
+
+    fn found(length: u32, bytes: &[u8]) -> Answer {
+        Answer::Found(Part { state: 0, refusal: 0, length, bytes: bytes.to_vec() })
+    }
+
+    fn answered(answer: &Answer) -> Vec<u8> {
+        let mut bytes = Vec::new();
+        answer.write(&mut bytes).unwrap();
+        bytes
+    }
+
+    fn read_back(answer: &Answer, mut input: &[u8]) -> io::Result<Answer> {
+        let back = match answer {
+            Answer::Judged { .. } => Answer::read_judged(&mut input),
+            Answer::Made { output, .. } => Answer::read_made(&mut input, output.len() as u32),
+            Answer::Found(_) => Answer::read_found(&mut input),
+        };
+        assert!(input.is_empty());
+        back
+    }
+
+    #[test]
+    fn an_answer_comes_back_from_its_bytes() {
+        let judged = Answer::Judged { refusal: 6, board: board() };
+        let lengths = [(judged, 652), (made(b"abcd"), 660), (found(2, b"[]"), 14)];
+        for (answer, length) in lengths {
+            let bytes = answered(&answer);
+            assert_eq!(bytes.len(), length);
+            assert_eq!(read_back(&answer, &bytes).unwrap(), answer);
+            assert!(read_back(&answer, &bytes[..length - 1]).is_err());
+        }
+    }
+
+    #[test]
+    fn a_part_that_is_too_long_is_not_read() {
+        let bytes = answered(&found(u32::MAX, b""));
+        assert_eq!(Answer::read_found(&mut &bytes[..]).unwrap(), found(u32::MAX, b""));
+    }
+
+    #[test]
+    fn differences_are_named() {
+        assert!(differences(&made(b"abc"), &made(b"abc")).is_empty());
+        let mut wrong = board();
+        wrong.marks[79] = Mark { kind: 1, place: 5 };
+        let wrong = Answer::Made { refusal: 5, length: 3, board: wrong, output: b"abd".to_vec() };
+        let lines = differences(&made(b"abc"), &wrong);
+        assert_eq!(
+            lines,
+            [
+                "  expected refusal 0 length 3",
+                "  answered refusal 5 length 3",
+                "  mark 79: expected 2 at 0, answered 1 at 5",
+                "  byte 2: expected 63, answered 64",
+            ]
+        );
+        assert_eq!(
+            differences(&found(2, b"[]"), &found(3, b"[]x")),
+            ["  expected state 0 refusal 0 length 2", "  answered state 0 refusal 0 length 3"]
+        );
+    }
+
+    #[test]
+    fn only_some_wrong_marks_are_shown() {
+        let all = Board { marks: [Mark { kind: 9, place: 9 }; MARKS] };
+        let lines = board_differences(&board(), &all);
+        assert_eq!(lines.len(), 11);
+        assert_eq!(lines[10], "  and 71 more marks");
+    }
+}

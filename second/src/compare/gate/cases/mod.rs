@@ -1,0 +1,149 @@
+//! The cases of the whole gate: rules, layouts, changes, lookups.
+
+mod breaking;
+mod changes;
+mod enumerations;
+mod files;
+mod keys;
+mod layout;
+mod long;
+mod lookups;
+mod mutated;
+mod outline;
+mod pool;
+mod random_tables;
+mod records;
+mod runs;
+mod sizes;
+mod targets;
+mod unread;
+
+use std::sync::Arc;
+
+use super::case::{Bytes, Call, Change, GateCase, Output, LONGEST};
+use super::set_draft::SetDraft;
+use crate::board::{Board, Mark};
+use crate::compare::random::Random;
+
+/// The same seed always gives the same cases in the same order.
+pub fn all_cases(seed: u64) -> Vec<GateCase> {
+    let base = SetDraft::accepted();
+    let mut cases = Cases { list: Vec::new(), random: Random::new(seed), base };
+    breaking::add(&mut cases);
+    keys::add(&mut cases);
+    enumerations::add(&mut cases);
+    targets::add(&mut cases);
+    records::add(&mut cases);
+    outline::add(&mut cases);
+    unread::add(&mut cases);
+    mutated::add(&mut cases);
+    files::add(&mut cases);
+    long::add(&mut cases);
+    layout::add(&mut cases);
+    sizes::add(&mut cases);
+    changes::add(&mut cases);
+    runs::add(&mut cases);
+    lookups::add(&mut cases);
+    cases.list
+}
+
+/// The cases gathered so far, the numbers to vary them with, and the accepted
+/// set that most of them are made of.
+struct Cases {
+    list: Vec<GateCase>,
+    random: Random,
+    base: SetDraft,
+}
+
+impl Cases {
+    fn push(&mut self, bundle: &Bytes, call: Call) {
+        assert!(bundle.len() <= LONGEST);
+        self.list.push(GateCase { bundle: bundle.clone(), call });
+    }
+
+    fn push_judge(&mut self, bundle: &Bytes) {
+        self.push(bundle, Call::Judge);
+    }
+
+    fn judge(&mut self, bundle: Vec<u8>) {
+        self.push_judge(&Arc::new(bundle));
+    }
+
+    fn judge_set(&mut self, set: &SetDraft) {
+        self.judge(set.bundle());
+    }
+
+    fn try_change(&mut self, bundle: &Bytes, change: Change) {
+        self.push(bundle, Call::Try(change));
+    }
+
+    /// The change into an output of that length, filled in some way.
+    fn make_change(&mut self, bundle: &Bytes, change: Change, length: usize) {
+        assert!(length <= LONGEST);
+        let seed = self.random.next_number() as u32;
+        self.push(bundle, Call::Make(change, Output { length: length as u32, seed }));
+    }
+
+    fn look_up(&mut self, bundle: &Bytes, number: u32) {
+        self.push(bundle, Call::LookUp(number));
+    }
+}
+
+/// File numbers on both sides of the last one, and such as would be a file's if
+/// some of their bits were lost.
+const FILE_NUMBERS: [u32; 14] = [
+    0,
+    5,
+    19,
+    20,
+    21,
+    255,
+    256,
+    256 + 5,
+    1 << 16,
+    (1 << 16) + 19,
+    (1 << 31) - 1,
+    1 << 31,
+    (1 << 31) + 19,
+    u32::MAX,
+];
+
+/// A change of any file or of none that there is, against any board.
+fn any_change(cases: &mut Cases) -> Change {
+    let random = &mut cases.random;
+    let board = random_board(random);
+    let number = match random.below(3) {
+        0 => random.pick(&FILE_NUMBERS),
+        _ => random.below(20) as u32,
+    };
+    let new = random.pick(&[None, Some(&b""[..]), Some(b"[]"), Some(b"{}"), Some(b"[{}]")]);
+    Change { board, number, new: new.map(|bytes| Arc::new(bytes.to_vec())) }
+}
+
+/// The file replaced by these bytes or withdrawn.
+fn change(board: Board, number: usize, new: Option<Vec<u8>>) -> Change {
+    Change { board, number: number as u32, new: new.map(Arc::new) }
+}
+
+/// Marks that need not be those of any set: kinds and places of any size.
+fn random_board(random: &mut Random) -> Board {
+    let mut board = Board::fresh();
+    for mark in &mut board.marks {
+        *mark = random_mark(random);
+    }
+    board
+}
+
+fn random_mark(random: &mut Random) -> Mark {
+    let kind = match random.below(8) {
+        0 => random.next_number() as u32,
+        1 => u32::MAX,
+        _ => random.below(24) as u32,
+    };
+    let place = match random.below(4) {
+        0 => random.next_number() as u32,
+        1 => random.pick(&[0, u32::MAX, 1 << 31]),
+        _ => random.below(5000) as u32,
+    };
+    Mark { kind, place }
+}
