@@ -298,7 +298,7 @@ fn days_in_month(year: u32, month: u32) -> u32 {
 }
 
 fn is_leap(year: u32) -> bool {
-    year.is_multiple_of(400) || (year.is_multiple_of(4) && !year.is_multiple_of(100))
+    year % 400 == 0 || (year % 4 == 0 && year % 100 != 0)
 }
 
 // --------------------------------------------------------------- numbers
@@ -429,7 +429,7 @@ impl Number {
             return Number { minus: false, c: 0, p: 0 };
         }
         let mut normal = *self;
-        while normal.c.is_multiple_of(10) {
+        while normal.c % 10 == 0 {
             normal.c /= 10;
             normal.p += 1;
         }

@@ -1,13 +1,27 @@
 //! A second program for the schedule gate, written from its requirements
 //! alone: a plain record reader with maps and sets, to be compared with the
 //! gate case by case.
+//!
+//! What `second_serve` needs is written for Rust 1.63 (hence the `msrv` lines),
+//! the compiler with which `./bench` builds it for another processor. With the
+//! cfg `serve_only` nothing else is compiled.
 
+#[cfg(not(serve_only))]
+pub mod bench;
+#[clippy::msrv = "1.63"]
 pub mod board;
+#[clippy::msrv = "1.63"]
 pub mod bundle;
 pub mod compare;
+#[clippy::msrv = "1.63"]
 pub mod fields;
+#[clippy::msrv = "1.63"]
 pub mod gate;
+#[clippy::msrv = "1.63"]
 pub mod json;
+#[cfg(not(serve_only))]
 pub mod print;
+#[clippy::msrv = "1.63"]
 pub mod rules;
+#[clippy::msrv = "1.63"]
 pub mod table;

@@ -164,15 +164,17 @@ fn first_breaking(rule: &Rule, tables: &[&[Record]]) -> Option<usize> {
         Rule::Key { fields, .. } => first_repeated_key(records, fields),
         Rule::OneOf { field, values, .. } => records
             .iter()
-            .position(|record| record.id(field).is_some_and(|id| !is_value_of(values, &id))),
+            .position(|record| record.id(field).map_or(false, |id| !is_value_of(values, &id))),
         Rule::Target { field, other_field, .. } => {
             let ids = ids_of(tables[1], other_field);
-            records.iter().position(|record| record.id(field).is_some_and(|id| !ids.contains(&id)))
+            records
+                .iter()
+                .position(|record| record.id(field).map_or(false, |id| !ids.contains(&id)))
         }
         Rule::HasOne { counts, other_field, .. } => {
             let ids = ids_of(tables[1], other_field);
             records.iter().position(|record| {
-                counts(record) && record.id("ID").is_some_and(|id| !ids.contains(&id))
+                counts(record) && record.id("ID").map_or(false, |id| !ids.contains(&id))
             })
         }
         Rule::Each { wrong, .. } => records.iter().position(wrong),
@@ -218,7 +220,7 @@ fn key_part(record: &Record, field: &str) -> KeyPart {
 // -------------------------------------------------------- single records
 
 fn id_is(record: &Record, field: &str, values: &[&str]) -> bool {
-    record.id(field).is_some_and(|id| values.iter().any(|value| value.eq_ignore_ascii_case(&id)))
+    record.id(field).map_or(false, |id| values.iter().any(|value| value.eq_ignore_ascii_case(&id)))
 }
 
 fn has_code_without_type(record: &Record) -> bool {
@@ -240,7 +242,7 @@ const DAYS_HOURS: [&str; 7] = [
 ];
 
 fn has_sign(record: &Record, field: &str, sign: Ordering) -> bool {
-    record.decimal(field).is_some_and(|number| number.sign() == sign)
+    record.decimal(field).map_or(false, |number| number.sign() == sign)
 }
 
 fn is_below_zero(record: &Record, field: &str) -> bool {
@@ -335,10 +337,10 @@ fn first_child_of_no_summary(outline: &[Record], tasks: &[Record]) -> Option<usi
     let summaries: HashSet<String> =
         tasks.iter().filter(|task| is_summary(task)).filter_map(|task| task.id("ID")).collect();
     let is_summary_record =
-        |index: usize| outline[index].id("TaskID").is_some_and(|id| summaries.contains(&id));
+        |index: usize| outline[index].id("TaskID").map_or(false, |id| summaries.contains(&id));
     (0..outline.len()).find(|&index| {
         levels[index] != 1
-            && parent_of(&levels, index).is_some_and(|parent| !is_summary_record(parent))
+            && parent_of(&levels, index).map_or(false, |parent| !is_summary_record(parent))
     })
 }
 

@@ -259,8 +259,9 @@ impl<'a> Reader<'a> {
             return Err(not_json(at));
         }
         let name = read_string(self.bytes, at)?;
-        let Some(field) = self.field_named(&name) else {
-            return fault(UNKNOWN_NAME, at);
+        let field = match self.field_named(&name) {
+            Some(field) => field,
+            None => return fault(UNKNOWN_NAME, at),
         };
         if !seen.insert(field.name) {
             return fault(NAME_TWICE, at);
@@ -328,8 +329,9 @@ fn value_of_number(token: &NumberToken, kind: Type, at: usize) -> Result<Value, 
     if !matches!(kind, Type::Decimal | Type::Integer) {
         return fault(WRONG_JSON_KIND, at);
     }
-    let Some(number) = token.value() else {
-        return fault(BEYOND_LIMITS, at);
+    let number = match token.value() {
+        Some(number) => number,
+        None => return fault(BEYOND_LIMITS, at),
     };
     if kind == Type::Decimal {
         return Ok(Value::Decimal(number));

@@ -2,13 +2,21 @@
 //! (`case`, `answer`, `cases`), on the reading of one file (`tables`) and on
 //! the whole gate (`gate`).
 
+#[cfg(not(serve_only))]
 pub mod answer;
+#[cfg(not(serve_only))]
 pub mod case;
+#[cfg(not(serve_only))]
 pub mod cases;
+#[cfg(not(serve_only))]
 pub mod command;
+#[cfg(not(serve_only))]
 mod draft;
 pub mod gate;
+#[cfg(not(serve_only))]
 pub mod random;
+#[clippy::msrv = "1.63"]
 pub mod run;
 pub mod tables;
+#[clippy::msrv = "1.63"]
 pub mod wire;

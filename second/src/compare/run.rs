@@ -61,7 +61,7 @@ impl<'a, Q> Run<'a, Q> {
     fn asked(&self) -> impl Iterator<Item = (usize, &'a Q)> {
         let only = self.only;
         let numbered = self.cases.iter().enumerate();
-        numbered.filter(move |(number, _)| only.is_none_or(|only| only == *number))
+        numbered.filter(move |(number, _)| only.map_or(true, |only| only == *number))
     }
 
     pub fn count(&self) -> usize {

@@ -164,16 +164,18 @@ impl Question for GateCase {
     fn write(&self, out: &mut impl Write) -> io::Result<()> {
         write_words(out, &self.header())?;
         out.write_all(&self.bundle)?;
-        let Some(change) = self.change() else {
-            return Ok(());
+        let change = match self.change() {
+            Some(change) => change,
+            None => return Ok(()),
         };
         answer::write_board(out, &change.board)?;
         out.write_all(change.new.as_deref().map_or(&[], Vec::as_slice))
     }
 
     fn read(input: &mut impl Read) -> io::Result<Option<GateCase>> {
-        let Some(op) = read_first_word(input)? else {
-            return Ok(None);
+        let op = match read_first_word(input)? {
+            Some(op) => op,
+            None => return Ok(None),
         };
         let header = Header::read(op, input)?;
         let bundle = Arc::new(read_slice_within(input, header.bundle, LONGEST)?);

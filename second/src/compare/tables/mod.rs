@@ -6,7 +6,9 @@ use std::collections::BTreeSet;
 use crate::fields::{fields_of, Type};
 use crate::table::is_singleton;
 
+#[cfg(not(serve_only))]
 pub mod case;
+#[cfg(not(serve_only))]
 pub mod cases;
 
 /// The kinds that the mark of that file can have, 0 among them.
