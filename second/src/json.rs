@@ -314,7 +314,9 @@ pub struct NumberToken<'a> {
     pub end: usize,
 }
 
-/// ±c times 10 to the p, within the limits of c and p.
+/// ±c times 10 to the p, within the limits of c and p and in the one form that
+/// its value has: c without trailing zeros, and zero as c 0, p 0 without a
+/// sign. So numbers are equal exactly if their values are.
 #[derive(Clone, Copy, Debug, PartialEq, Eq)]
 pub struct Number {
     pub minus: bool,
@@ -324,11 +326,11 @@ pub struct Number {
 
 pub const LARGEST: u64 = 999_999_999_999_999;
 const LARGEST_DIGITS: usize = 15;
-const P_LIMIT: i64 = 15;
+const P_LIMIT: i128 = 15;
 
-/// No file has so many bytes that its fraction digits could bring an exponent
-/// with more significant digits than this back within the limits.
-const EXPONENT_DIGITS: usize = 18;
+/// No slice is so long that its digits could bring an exponent with more
+/// significant digits than this back within the limits.
+const EXPONENT_DIGITS: usize = 19;
 
 /// Reads a number as far as the grammar goes.
 pub fn read_number(bytes: &[u8], at: usize) -> Result<NumberToken<'_>, Fault> {
@@ -371,38 +373,41 @@ fn read_digits(bytes: &[u8], at: usize) -> Result<&[u8], Fault> {
     Ok(&rest[..count])
 }
 
-impl NumberToken<'_> {
-    /// The value, or nothing if c or p is beyond its limits.
+impl<'a> NumberToken<'a> {
+    /// The value in its one form, or nothing if c or p of that form is beyond
+    /// its limits.
     pub fn value(&self) -> Option<Number> {
-        let c = self.significand()?;
-        let p = self.power()?;
+        let count = self.whole.len() + self.fraction.len();
+        let trailing_zeros = self.digits().rev().take_while(|digit| **digit == b'0').count();
+        if trailing_zeros == count {
+            return Some(Number::ZERO);
+        }
+        let c = small_whole(self.digits().take(count - trailing_zeros), LARGEST_DIGITS)?;
+        let p = self.power(trailing_zeros)?;
         Some(Number { minus: self.minus, c, p })
     }
 
-    /// c: the whole number formed by all digits before any exponent.
-    fn significand(&self) -> Option<u64> {
-        let digits: Vec<u8> = self.whole.iter().chain(self.fraction).copied().collect();
-        small_whole(&digits, LARGEST_DIGITS)
+    /// All digits before any exponent.
+    fn digits(&self) -> impl DoubleEndedIterator<Item = &'a u8> {
+        self.whole.iter().chain(self.fraction)
     }
 
-    /// p: the exponent less the count of fraction digits.
-    fn power(&self) -> Option<i32> {
-        let size = i64::try_from(small_whole(self.exponent, EXPONENT_DIGITS)?).ok()?;
+    /// p: the exponent less the count of fraction digits, raised by one for
+    /// each trailing zero that c goes without.
+    fn power(&self, trailing_zeros: usize) -> Option<i32> {
+        let size = i128::from(small_whole(self.exponent.iter(), EXPONENT_DIGITS)?);
         let exponent = if self.exponent_minus { -size } else { size };
-        let p = exponent - i64::try_from(self.fraction.len()).ok()?;
-        ((-P_LIMIT..=P_LIMIT).contains(&p)).then_some(p as i32)
+        let p = exponent - self.fraction.len() as i128 + trailing_zeros as i128;
+        (-P_LIMIT..=P_LIMIT).contains(&p).then_some(p as i32)
     }
 }
 
-/// The value of a run of digits that has at most `most` digits once its
-/// leading zeros are gone. An empty run is zero.
-fn small_whole(digits: &[u8], most: usize) -> Option<u64> {
-    let zeros = digits.iter().take_while(|digit| **digit == b'0').count();
-    let rest = &digits[zeros..];
-    if rest.len() > most {
-        return None;
-    }
-    Some(rest.iter().fold(0, |sum, digit| 10 * sum + u64::from(digit - b'0')))
+/// The whole number formed by digits, or nothing if more than `most` are left
+/// of them once its leading zeros are gone. No digit at all is zero.
+fn small_whole<'a>(digits: impl Iterator<Item = &'a u8>, most: usize) -> Option<u64> {
+    let mut rest = digits.skip_while(|digit| **digit == b'0');
+    let whole = rest.by_ref().take(most).fold(0, |sum, digit| 10 * sum + u64::from(digit - b'0'));
+    rest.next().is_none().then_some(whole)
 }
 
 /// A number as an Integer.
@@ -414,6 +419,8 @@ pub enum Whole {
 }
 
 impl Number {
+    const ZERO: Number = Number { minus: false, c: 0, p: 0 };
+
     pub fn sign(&self) -> std::cmp::Ordering {
         match (self.c, self.minus) {
             (0, _) => std::cmp::Ordering::Equal,
@@ -422,31 +429,17 @@ impl Number {
         }
     }
 
-    /// The one form that all numbers of the same value share: no trailing
-    /// zeros in c, and a zero without sign or power.
-    pub fn normal(&self) -> Number {
-        if self.c == 0 {
-            return Number { minus: false, c: 0, p: 0 };
-        }
-        let mut normal = *self;
-        while normal.c % 10 == 0 {
-            normal.c /= 10;
-            normal.p += 1;
-        }
-        normal
-    }
-
+    /// c has no trailing zeros, so only a p below zero leaves a fraction.
     pub fn whole(&self) -> Whole {
-        let normal = self.normal();
-        if normal.p < 0 {
+        if self.p < 0 {
             return Whole::NotWhole;
         }
-        let size = u128::from(normal.c) * 10u128.pow(normal.p as u32);
+        let size = u128::from(self.c) * 10u128.pow(self.p as u32);
         if size > u128::from(LARGEST) {
             return Whole::Beyond;
         }
         let size = size as i64;
-        Whole::Integer(if normal.minus { -size } else { size })
+        Whole::Integer(if self.minus { -size } else { size })
     }
 }
 
@@ -593,20 +586,98 @@ mod tests {
         token.value().map(|n| (n.minus, n.c, n.p))
     }
 
+    fn all_are(texts: &[&str], expected: Option<(bool, u64, i32)>) {
+        for text in texts {
+            assert_eq!(number(text), expected, "{text}");
+        }
+    }
+
     #[test]
-    fn numbers_within_and_beyond_the_limits() {
-        assert_eq!(number("-0"), Some((true, 0, 0)));
-        assert_eq!(number("0.001"), Some((false, 1, -3)));
-        assert_eq!(number("12.50E+3"), Some((false, 1250, 1)));
-        assert_eq!(number("999999999999999"), Some((false, LARGEST, 0)));
-        assert_eq!(number("1000000000000000"), None);
-        assert_eq!(number("0e15"), Some((false, 0, 15)));
-        assert_eq!(number("0e16"), None);
-        assert_eq!(number("0e-16"), None);
-        assert_eq!(number("1e18446744073709551617"), None);
-        let zeros = "0".repeat(100_000);
-        assert_eq!(number(&format!("0.{zeros}1e100001")), Some((false, 1, 0)));
-        assert_eq!(number(&format!("1e-{zeros}5")), Some((false, 1, -5)));
+    fn a_value_has_one_form_however_it_is_written() {
+        all_are(
+            &["8", "8.0", "8.0000000000000000", "80e-1", "0.8e1", "8E-00", "800.00e-2"],
+            Some((false, 8, 0)),
+        );
+        all_are(&["80000000000000000000e-19", "0.000000000000000000080e20"], Some((false, 8, 0)));
+        all_are(&["0.001", "0.0010", "1e-3", "1000e-6"], Some((false, 1, -3)));
+        all_are(&["-12.50E+3", "-12500", "-1.25e4", "-125e2"], Some((true, 125, 2)));
+    }
+
+    #[test]
+    fn zero_has_neither_sign_nor_power() {
+        all_are(&["0", "-0", "0.0", "-0.0000000000000000", "0e15", "0e16"], Some((false, 0, 0)));
+        all_are(&["0e-16", "0e99", "-0.000e-99", "-0E+0", "0.0e00099"], Some((false, 0, 0)));
+        all_are(&["0e99999999999999999999", "-0E-99999999999999999999"], Some((false, 0, 0)));
+    }
+
+    #[test]
+    fn c_has_at_most_fifteen_digits_without_its_trailing_zeros() {
+        for zeros in ["", "0", "000000000000000"] {
+            let p = zeros.len() as i32;
+            assert_eq!(number(&format!("999999999999999{zeros}")), Some((false, LARGEST, p)));
+            assert_eq!(number(&format!("9.99999999999999{zeros}")), Some((false, LARGEST, -14)));
+            assert_eq!(number(&format!("-0.00123456789012345{zeros}E2")).unwrap().2, -15);
+            assert_eq!(number(&format!("1000000000000001{zeros}")), None);
+            assert_eq!(number(&format!("1.000000000000001{zeros}")), None);
+            assert_eq!(number(&format!("1234567890123456{zeros}e-9")), None);
+        }
+        assert_eq!(number("100000000000001"), Some((false, 100_000_000_000_001, 0)));
+        assert_eq!(number("9999999999999990"), Some((false, LARGEST, 1)));
+        assert_eq!(number("9999999999999991"), None);
+    }
+
+    /// Reached by the exponent, by zeros behind, by fraction digits, by mixtures.
+    #[test]
+    fn p_is_at_most_fifteen_either_way() {
+        let by_exponent = ["1e15", "1E+00015"];
+        let by_zeros = ["1000000000000000", "10e14", "1000000000000000e0", "1.0e15"];
+        let by_fraction = ["0.1e16", "0.000001e21", "0.01000e17", "1000.000e12"];
+        for texts in [&by_exponent[..], &by_zeros, &by_fraction] {
+            all_are(texts, Some((false, 1, 15)));
+        }
+        all_are(&["1e16", "10e15", "10000000000000000", "1000000000000000e1", "1.0e16"], None);
+        all_are(&["0.1e17", "0.01000e18", "1000.000e13", "1e18446744073709551617"], None);
+
+        let by_exponent = ["1e-15", "1E-00015"];
+        let by_zeros = ["10e-16", "1000000000000000e-30", "1.000e-15"];
+        let by_fraction = ["0.000000000000001", "0.1e-14", "0.0000000000000010", "0.00100E-12"];
+        for texts in [&by_exponent[..], &by_zeros, &by_fraction] {
+            all_are(texts, Some((false, 1, -15)));
+        }
+        all_are(&["1e-16", "10e-17", "1000000000000000e-31", "1.000e-16"], None);
+        all_are(&["0.0000000000000001", "0.1e-15", "0.00000000000000010", "0.00100E-13"], None);
+        all_are(&["1e-18446744073709551617", "1e-99999999999999999999"], None);
+
+        assert_eq!(number("-999999999999999e15"), Some((true, LARGEST, 15)));
+        assert_eq!(number("999999999999999e-15"), Some((false, LARGEST, -15)));
+        all_are(&["999999999999999e16", "99999999999999e-16", "9999999999999990e15"], None);
+    }
+
+    #[test]
+    fn no_run_of_digits_is_too_long() {
+        let count = 1 << 20;
+        let zeros = "0".repeat(count);
+        let one = |p| Some((false, 1, p));
+        // In front of the only digit, and in front of the exponent.
+        assert_eq!(number(&format!("0.{zeros}1e{}", count + 1)), one(0));
+        assert_eq!(number(&format!("0.{zeros}1e{}", count + 16)), one(15));
+        assert_eq!(number(&format!("0.{zeros}1e{}", count + 17)), None);
+        assert_eq!(number(&format!("0.{zeros}1")), None);
+        assert_eq!(number(&format!("1e-{zeros}5")), one(-5));
+        assert_eq!(number(&format!("1e{zeros}")), one(0));
+        // Behind it, before the point and after.
+        assert_eq!(number(&format!("1.{zeros}")), one(0));
+        assert_eq!(number(&format!("1{zeros}")), None);
+        assert_eq!(number(&format!("1{zeros}e-{count}")), one(0));
+        assert_eq!(number(&format!("1{zeros}.{zeros}e-{}", count - 15)), one(15));
+        assert_eq!(number(&format!("1{zeros}.{zeros}e-{}", count - 16)), None);
+        assert_eq!(number(&format!("1{zeros}e-{}", count + 15)), one(-15));
+        assert_eq!(number(&format!("1{zeros}e-{}", count + 16)), None);
+        // Between two digits, and without any other.
+        assert_eq!(number(&format!("1.{zeros}1")), None);
+        assert_eq!(number(&format!("1{zeros}1e-{count}")), None);
+        assert_eq!(number(&format!("-0.{zeros}e{}", "9".repeat(count))), Some((false, 0, 0)));
+        assert_eq!(number(&format!("1e{}", "9".repeat(count))), None);
     }
 
     #[test]
@@ -629,8 +700,16 @@ mod tests {
         assert_eq!(whole("0.5"), Whole::NotWhole);
         assert_eq!(whole("-0.0"), Whole::Integer(0));
         assert_eq!(whole("1e15"), Whole::Beyond);
+        assert_eq!(whole("1000000000000000"), Whole::Beyond);
+        assert_eq!(whole("-9999999999999990"), Whole::Beyond);
+        assert_eq!(whole("999999999999999"), Whole::Integer(999_999_999_999_999));
+        assert_eq!(whole("-999999999999999.0000"), Whole::Integer(-999_999_999_999_999));
+        assert_eq!(whole("8.0000000000000000"), Whole::Integer(8));
+        assert_eq!(whole("-0e99"), Whole::Integer(0));
         assert_eq!(whole("-99999999999999e1"), Whole::Integer(-999_999_999_999_990));
         assert_eq!(whole("100000000000000e-14"), Whole::Integer(1));
         assert_eq!(whole("100000000000001e-14"), Whole::NotWhole);
+        assert_eq!(whole("70000000000000000e-16"), Whole::Integer(7));
+        assert_eq!(whole("70000000000000000e-17"), Whole::NotWhole);
     }
 }

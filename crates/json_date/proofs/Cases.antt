@@ -3,12 +3,11 @@
 use Prim.Native.Nat.{ℕ}
 use mathlib.Core.Path.{_≡_, refl}
 use mathlib.Core.List.{List, [], _∷_, map}
-use Rattle.json_bytes.specs.Reads.{within}
-use Rattle.json_chars.specs.Step.{stepAt, escapeAt, joined, unitAt, digitAt, hexDigit, escapedAt, isPair}
-use Rattle.json_chars.specs.Chars.{charsFrom, charsAt}
+use Rattle.json_date.proofs.Opens.{open-dates}
+use Rattle.json_chars.specs.Chars.{charsAt}
 use Rattle.json_date.specs.declared.Date.{Date}
 use Rattle.json_date.specs.declared.Date.the-variants.{Day, NoDate}
-use Rattle.json_date.specs.Date.{isLeap, monthDays, isDay, digitsAt, twoAt, hasForm, yearOf, monthOf, dayOf, dateOf}
+use Rattle.json_date.specs.Date.{dateOf}
 
 abbrev dateIn : List ℕ → Date
 dateIn s = dateOf (charsAt s 0)
@@ -30,5 +29,5 @@ dates =
     []
 
 pub worked : map dateIn dates ≡ (Day 2000 2 29 ∷ NoDate ∷ Day 2024 2 29 ∷ NoDate ∷ NoDate ∷ NoDate ∷ Day 1 1 1 ∷ Day 9999 12 31 ∷ NoDate ∷ NoDate ∷ Day 2000 2 29 ∷ [])
-unfolding isLeap monthDays isDay digitsAt twoAt hasForm yearOf monthOf dayOf dateOf within charsAt charsFrom stepAt escapeAt joined unitAt digitAt hexDigit escapedAt isPair
+unfolding open-dates
 worked = refl

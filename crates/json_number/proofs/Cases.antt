@@ -1,32 +1,13 @@
--- The number cases of document 01, "Both sides of each line" (P2 to P6), and the edges beside them, by computation.
+-- The number cases of document 01, "Both sides of each line" (P2 to P6), as order 1 of document 02 reads them, and the edges beside them, by computation.
 -- Assumes nothing.
 use Prim.Native.Nat.{ℕ}
 use mathlib.Core.Path.{_≡_, refl}
 use mathlib.Core.Bool.{Bool, true, false}
 use mathlib.Core.List.{List, [], _∷_, map}
-use Rattle.json_bytes.specs.Reads.{within, leading}
+use Rattle.json_number.proofs.Opens.{open-numbers}
 use Rattle.json_bytes.specs.declared.Reading.{Reading}
 use Rattle.json_bytes.specs.declared.Reading.the-variants.{Whole, Fault}
-use Rattle.json_number.specs.Number.{
-  isDigit,
-  formed,
-  fractionAt,
-  coefficientAt,
-  powerAt,
-  signedAt,
-  exponentAt,
-  withinLimits,
-  limited,
-  valueOf,
-  withExponent,
-  withCoefficient,
-  numberAt,
-  wholeOf,
-  integerOf,
-  signOf,
-  sameParts,
-  sameValue,
-}
+use Rattle.json_number.specs.Number.{numberAt, integerOf, signOf, sameValue}
 use Rattle.json_number.specs.declared.Value.{Value}
 use Rattle.json_number.specs.declared.Value.the-variants.{Fits, Beyond}
 use Rattle.json_number.specs.declared.Integer.{Integer}
@@ -47,6 +28,11 @@ texts =
     ∷ (49 ∷ 101 ∷ 49 ∷ 53 ∷ [])  -- 1e15
     ∷ (49 ∷ 69 ∷ 43 ∷ 49 ∷ 54 ∷ [])  -- 1E+16
     ∷ (48 ∷ 101 ∷ 49 ∷ 54 ∷ [])  -- 0e16
+    ∷ (48 ∷ 101 ∷ 57 ∷ 57 ∷ [])  -- 0e99
+    ∷ (56 ∷ 46 ∷ 48 ∷ 48 ∷ 48 ∷ 48 ∷ 48 ∷ 48 ∷ 48 ∷ 48 ∷ 48 ∷ 48 ∷ 48 ∷ 48 ∷ 48 ∷ 48 ∷ 48 ∷ 48 ∷ [])  -- 8.0000000000000000
+    ∷ (49 ∷ 48 ∷ 101 ∷ 49 ∷ 53 ∷ [])  -- 10e15
+    ∷ (48 ∷ 46 ∷ 48 ∷ 48 ∷ 48 ∷ 48 ∷ 48 ∷ 48 ∷ 48 ∷ 48 ∷ 48 ∷ 48 ∷ 48 ∷ 48 ∷ 48 ∷ 48 ∷ 48 ∷ 49 ∷ [])  -- 0.0000000000000001
+    ∷ (49 ∷ 48 ∷ 48 ∷ 48 ∷ 48 ∷ 48 ∷ 48 ∷ 48 ∷ 48 ∷ 48 ∷ 48 ∷ 48 ∷ 48 ∷ 48 ∷ 48 ∷ 48 ∷ 101 ∷ 45 ∷ 51 ∷ 48 ∷ [])  -- 1000000000000000e-30
     ∷ (45 ∷ 49 ∷ 46 ∷ 53 ∷ 101 ∷ 45 ∷ 49 ∷ 52 ∷ [])  -- -1.5e-14
     ∷ (49 ∷ 46 ∷ 53 ∷ 101 ∷ 45 ∷ 49 ∷ 53 ∷ [])  -- 1.5e-15
     ∷ (48 ∷ 49 ∷ [])  -- 01, of which 0 is the number
@@ -58,14 +44,19 @@ texts =
 
 abbrev answers : List (Reading × Value × Integer × Sign)
 answers =
-    (Whole 5, Fits false 10 14, Is false 1, Above)
+    (Whole 5, Fits false 1 15, Is false 1, Above)
     ∷ (Whole 3, Fits false 5 14, Fraction, Above)
-    ∷ (Whole 2, Fits true 0 15, Is false 0, Zero)
+    ∷ (Whole 2, Fits false 0 15, Is false 0, Zero)
     ∷ (Whole 15, Fits false 999999999999999 15, Is false 999999999999999, Above)
-    ∷ (Whole 16, Beyond, TooLarge, Zero)
+    ∷ (Whole 16, Fits false 1 30, TooLarge, Above)
     ∷ (Whole 4, Fits false 1 30, TooLarge, Above)
     ∷ (Whole 5, Beyond, TooLarge, Zero)
-    ∷ (Whole 4, Beyond, TooLarge, Zero)
+    ∷ (Whole 4, Fits false 0 15, Is false 0, Zero)
+    ∷ (Whole 4, Fits false 0 15, Is false 0, Zero)
+    ∷ (Whole 18, Fits false 8 15, Is false 8, Above)
+    ∷ (Whole 5, Beyond, TooLarge, Zero)
+    ∷ (Whole 18, Beyond, TooLarge, Zero)
+    ∷ (Whole 20, Fits false 1 0, Fraction, Above)
     ∷ (Whole 8, Fits true 15 0, Fraction, Below)
     ∷ (Whole 7, Beyond, TooLarge, Zero)
     ∷ (Whole 1, Fits false 0 15, Is false 0, Zero)
@@ -91,5 +82,5 @@ pairs =
     ∷ []
 
 pub numbers : (map read texts ≡ answers) × (map same pairs ≡ true ∷ true ∷ false ∷ false ∷ true ∷ true ∷ false ∷ [])
-unfolding within leading isDigit formed fractionAt coefficientAt powerAt signedAt exponentAt withinLimits limited valueOf withExponent withCoefficient numberAt wholeOf integerOf signOf sameParts sameValue
+unfolding open-numbers
 numbers = (refl, refl)

@@ -1,6 +1,8 @@
+pub mod Opens
+pub mod Scale
+pub mod Trim
 pub mod Digits
 pub mod Limits
-pub mod Scale
 pub mod Parts
 pub mod Places
 pub mod Laws

@@ -1,6 +1,8 @@
--- A JSON number where it stands: its end or its fault, and its value as document 01, "Numbers", counts it.
+-- A JSON number where it stands: its end or its fault, and its value as document 01, "Numbers", counts it, in the one form
+-- that order 1 of document 02 asks for.
 -- Source of the grammar: ECMA-404, section 8. Values here are unbounded: no number of digits is too large to have one.
-use Prim.Native.Nat.{ℕ, _+_, _*_, _-_, _/_, _%_, _^_, min}
+use Prim.Native.Nat.{ℕ, zero, suc, _+_, _*_, _-_, _/_, _%_, _^_, min}
+use mathlib.Core.Path.{_≡_}
 use mathlib.Core.Bool.{Bool, true, false, cond, not, _&&_, _||_}
 use mathlib.Core.List.{List, [], _∷_}
 use lib.ListN.{drop}
@@ -32,15 +34,33 @@ unfoldable pub formed : ℕ → List ℕ → ℕ
 formed n [] = n
 formed n (b ∷ bs) = elim (isDigit b) [ true ↦ formed (n * 10 + (b - 48)) bs | false ↦ n ]
 
+-- ---- "c without trailing zeros, p raised to match"
+-- how many zeros end a number, of at most `most`
+unfoldable pub zerosWithin : ℕ → ℕ → ℕ
+zerosWithin zero c = 0
+zerosWithin (suc most) c = elim (eqb (c % 10) 0) [ true ↦ suc (zerosWithin most (c / 10)) | false ↦ 0 ]
+
+-- a number has fewer zeros at its end than it counts; zero has none
+abbrev pub endZeros : ℕ → ℕ
+endZeros c = zerosWithin c c
+
+abbrev pub trimmed : ℕ → ℕ
+trimmed c = c / 10 ^ endZeros c
+
+-- digits that form c: their end, c without its zeros at the end, how many those are, and the count of fraction digits
+abbrev pub trimmedAt : ℕ → ℕ → ℕ → Coefficient
+trimmedAt end c fraction = Digits end (trimmed c) (endZeros c) fraction
+
 -- ---- The parts of a number, in the order of the grammar
 -- behind the integer, whose digits form c: a point and at least one digit, which c goes on through; or neither
 unfoldable pub fractionAt : List ℕ → ℕ → ℕ → Coefficient
 fractionAt s i c =
     cond (eqb (byteAt s i) 46)
-    (cond (eqb (digitsAt s (i + 1)) 0) (NoDigit (i + 1)) (Digits (i + 1 + digitsAt s (i + 1)) (formed c (drop (i + 1) s)) (digitsAt s (i + 1))))
-    (Digits i c 0)
+    (cond (eqb (digitsAt s (i + 1)) 0) (NoDigit (i + 1)) (trimmedAt (i + 1 + digitsAt s (i + 1)) (formed c (drop (i + 1) s)) (digitsAt s (i + 1))))
+    (trimmedAt i c 0)
 
--- the digits before any exponent: the end, the whole number that they form, and how many are fraction digits.
+-- the digits before any exponent: the end, the whole number that they form, its zeros at the end counted apart, and how many
+-- are fraction digits.
 -- A zero stands alone; any other digit begins a run.
 unfoldable pub coefficientAt : List ℕ → ℕ → Coefficient
 coefficientAt s i =
@@ -66,7 +86,7 @@ exponentAt s i = cond (eqb (byteAt s i) 101 || eqb (byteAt s i) 69) (signedAt s 
 abbrev pub largest : ℕ
 largest = 999999999999999
 
--- "c at most 999,999,999,999,999 and p from -15 to 15, zero included", with p kept as p + 15
+-- "c at most 999,999,999,999,999 and p from -15 to 15", with p kept as p + 15
 unfoldable pub withinLimits : ℕ → ℕ → Bool
 withinLimits c p15 = leb c largest && leb p15 30
 
@@ -74,21 +94,28 @@ withinLimits c p15 = leb c largest && leb p15 30
 unfoldable pub limited : Bool → ℕ → ℕ → ℕ → Value
 limited negative c up down = cond (leb down (up + 15) && withinLimits c (up + 15 - down)) (Fits negative c (up + 15 - down)) Beyond
 
--- "p the exponent less the count of fraction digits"
-unfoldable pub valueOf : Bool → ℕ → ℕ → Bool → ℕ → Value
-valueOf negative c fraction below e = limited negative c (cond below 0 e) (cond below (e + fraction) fraction)
+-- "p the exponent less the count of fraction digits", raised by the zeros that c has lost; "zero as c 0, p 0 without a sign".
+-- "The limits on c and p then apply to that form."
+unfoldable pub valueOf : Bool → ℕ → ℕ → ℕ → Bool → ℕ → Value
+valueOf negative c zeros fraction below e =
+    cond (eqb c 0) (Fits false 0 15) (limited negative c (cond below 0 e + zeros) (cond below (e + fraction) fraction))
+
+-- the form of a value: zero has one, and any other c ends in a digit that is not 0
+abbrev pub InForm : Bool → ℕ → ℕ → Type 0
+InForm negative c p15 = (c ≡ 0 → (negative ≡ false) × (p15 ≡ 15)) × ((c ≡ 0 → ⊥) → c % 10 ≡ 0 → ⊥)
 
 -- ---- A number, read whole
 -- no number can go on at a place: kind 11 there, and no value
 abbrev pub stoppedAt : ℕ → Number
 stoppedAt place = record { reading = Fault 11 place; value = Beyond }
 
-unfoldable pub withExponent : Bool → ℕ → ℕ → Exponent → Number
-withExponent negative c fraction (Power end below e) = record { reading = Whole end; value = valueOf negative c fraction below e }
-withExponent negative c fraction (NoPower place) = stoppedAt place
+unfoldable pub withExponent : Bool → ℕ → ℕ → ℕ → Exponent → Number
+withExponent negative c zeros fraction (Power end below e) =
+    record { reading = Whole end; value = valueOf negative c zeros fraction below e }
+withExponent negative c zeros fraction (NoPower place) = stoppedAt place
 
 unfoldable pub withCoefficient : List ℕ → Bool → Coefficient → Number
-withCoefficient s negative (Digits end c fraction) = withExponent negative c fraction (exponentAt s end)
+withCoefficient s negative (Digits end c zeros fraction) = withExponent negative c zeros fraction (exponentAt s end)
 withCoefficient s negative (NoDigit place) = stoppedAt place
 
 unfoldable pub numberAt : List ℕ → ℕ → Number
@@ -137,9 +164,14 @@ abbrev pub cap : ℕ
 cap = 10000000000000000000
 
 abbrev pub cappedCoefficient : Coefficient → Coefficient
-cappedCoefficient (Digits end c fraction) = Digits end (min c cap) fraction
+cappedCoefficient (Digits end c zeros fraction) = Digits end (min c cap) zeros fraction
 cappedCoefficient (NoDigit place) = NoDigit place
 
 abbrev pub cappedExponent : Exponent → Exponent
 cappedExponent (Power end below e) = Power end below (min e cap)
 cappedExponent (NoPower place) = NoPower place
+
+-- what the code carries of the number c that the digits so far form: all of it and it without its zeros at the end, both
+-- capped, and how many those zeros are
+abbrev pub Carried : ℕ → ℕ → ℕ → ℕ → Type 0
+Carried c value kept zeros = (value ≡ min c cap) × (kept ≡ min (trimmed c) cap) × (zeros ≡ endZeros c)

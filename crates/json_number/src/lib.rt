@@ -1,11 +1,12 @@
-// Numbers: where one ends, its value, and what the rules ask of a value.
+// Numbers: where one ends, its value in one form, and what the rules ask of a value.
 // No run of digits, however long, wraps or is read twice: a number that digits form is kept up to
 // ten to the nineteenth, which is beyond every limit.
 ghost use mathlib.Core.Path.{_≡_};
-ghost use Prim.Native.Nat.{_+_, _*_, _-_, _^_, _≤_, _<_, min};
+ghost use mathlib.Core.Bool.{cond};
+ghost use Prim.Native.Nat.{ℕ, _+_, _*_, _-_, _^_, _≤_, _<_, min};
 ghost use lib.ListN.{length, drop};
 ghost use lib.Dec.{eqb};
-ghost use Rattle.json_number.specs.Number.{isDigit, digitsAt, formed, cap, fractionAt, coefficientAt, powerAt, signedAt, exponentAt, cappedCoefficient, cappedExponent, valueOf, stoppedAt, withExponent, withCoefficient, numberAt, largest, withinLimits, wholeOf, integerOf, signOf, magnitude, sameParts, sameValue};
+ghost use Rattle.json_number.specs.Number.{isDigit, digitsAt, formed, cap, fractionAt, coefficientAt, powerAt, signedAt, exponentAt, cappedCoefficient, cappedExponent, Carried, valueOf, stoppedAt, withExponent, withCoefficient, numberAt, largest, withinLimits, wholeOf, integerOf, signOf, magnitude, sameParts, sameValue};
 use json_bytes::Reading;
 use json_bytes::byte_at;
 use json_bytes::is_within;
@@ -13,8 +14,11 @@ use json_bytes::is_within;
 // The largest c within the limits, and the largest magnitude of an Integer.
 const LARGEST: u64 = 999_999_999_999_999;
 
+// Zero is read without a sign.
+const NO_SIGN: bool = false;
+
 // A number's value, ±c times 10 to the p, with p kept as p + 15; or that c or p is outside the
-// limits. `negative` says that a minus sign stands before it, for `-0` too.
+// limits. A number that is read has one form: c ends in no zero, and zero is c 0, p 0, not negative.
 pub enum Value {
     Fits { negative: bool, c: u64, p15: u32 },
     Beyond,
@@ -42,11 +46,19 @@ pub enum Sign {
     Below,
 }
 
-// The digits before any exponent: the place behind them, the number that they form, and how many
-// are fraction digits; or the place where a digit is missing.
+// The digits before any exponent: the place behind them, the number that they form without the
+// zeros at its end, how many those are, and how many are fraction digits; or the place where a digit
+// is missing.
 enum Coefficient {
-    Digits { end: usize, c: u64, fraction: usize },
-    NoDigit { place: usize },
+    Digits {
+        end: usize,
+        c: u64,
+        zeros: usize,
+        fraction: usize,
+    },
+    NoDigit {
+        place: usize,
+    },
 }
 
 // The exponent: the place behind it, whether it is below zero, and its size; or the place where a
@@ -56,10 +68,13 @@ enum Exponent {
     NoPower { place: usize },
 }
 
-// The place behind a run of digits, and the number that they form behind those before it.
+// The place behind a run of digits, the number that they form behind those before it, that number
+// without the zeros at its end, and how many those are.
 struct Run {
     end: usize,
     value: u64,
+    kept: u64,
+    zeros: usize,
 }
 
 fn wide(b: u8) -> u64
@@ -85,46 +100,87 @@ fn joined(value: u64, b: u8) -> u64
     10_000_000_000_000_000_000
 }
 
-// The digits from `at` on, behind those that form `before`.
-fn run_from(s: &[u8], at: usize, before: u64) -> Run
-    requires { ⌜ before ≤ cap ⌝ }
-    ensures { λ r. ⌜ (r .end ≡ at + digitsAt (now (s .entry)) at) × (r .value ≡ min (formed before (drop at (now (s .entry)))) cap) ⌝ }
+// What is kept of a number once the digit b stands behind it: all of it, unless the digit is 0.
+fn kept_behind(kept: u64, value: u64, b: u8) -> u64
+    ensures { λ r. ⌜ r ≡ cond (eqb b 48) kept value ⌝ }
+{
+    if b == b'0' {
+        return kept;
+    }
+    value
+}
+
+// How many zeros end a number once the digit b stands behind it. Zero has none.
+fn zeros_behind(kept: u64, zeros: usize, b: u8) -> usize
+    requires { ⌜ zeros < 2 ^ 63 ⌝ }
+    ensures { λ r. ⌜ r ≡ cond (eqb b 48) (cond (eqb kept 0) 0 (zeros + 1)) 0 ⌝ }
+{
+    if b != b'0' {
+        return 0;
+    }
+    if kept == 0 {
+        return 0;
+    }
+    zeros + 1
+}
+
+// The digits from `at` on, behind those of a number x: what is carried of x goes on to what is
+// carried of the number that x and they form.
+fn run_from(s: &[u8], at: usize, before: u64, nonzero: u64, ending: usize) -> Run
+    requires { ⌜ ending ≤ at ⌝ }
+    ensures { λ r. ⌜ (r .end ≡ at + digitsAt (now (s .entry)) at) × (r .zeros ≤ r .end) × ((x : ℕ) → Carried x before nonzero ending → Carried (formed x (drop at (now (s .entry)))) (r .value) (r .kept) (r .zeros)) ⌝ }
 {
     let mut i = at;
     let mut value = before;
+    let mut kept = nonzero;
+    let mut zeros = ending;
     while i < s.len() {
         let b = s[i];
         if is_digit(b) {
             value = joined(value, b);
+            zeros = zeros_behind(kept, zeros, b);
+            kept = kept_behind(kept, value, b);
             i += 1;
         } else {
-            return Run { end: i, value };
+            return Run {
+                end: i,
+                value,
+                kept,
+                zeros,
+            };
         }
     }
-    Run { end: i, value }
+    Run {
+        end: i,
+        value,
+        kept,
+        zeros,
+    }
 }
 
-// Behind an integer whose digits form c: a point and digits, or neither.
-fn fraction_at(s: &[u8], at: usize, c: u64) -> Coefficient
-    requires { ⌜ c ≤ cap ⌝ }
-    ensures { λ r. ⌜ r ≡ cappedCoefficient (fractionAt (now (s .entry)) at c) ⌝ }
+// Behind an integer whose digits form a number x: a point and digits, or neither.
+fn fraction_at(s: &[u8], at: usize, value: u64, kept: u64, zeros: usize) -> Coefficient
+    requires { ⌜ zeros ≤ at ⌝ }
+    ensures { λ r. ⌜ ((x : ℕ) → Carried x value kept zeros → r ≡ cappedCoefficient (fractionAt (now (s .entry)) at x)) ⌝ }
 {
     if byte_at(s, at) != b'.' {
         return Coefficient::Digits {
             end: at,
-            c,
+            c: kept,
+            zeros,
             fraction: 0,
         };
     }
     let from = at + 1;
-    let digits = run_from(s, from, c);
+    let digits = run_from(s, from, value, kept, zeros);
     let end = digits.end;
     if end == from {
         return Coefficient::NoDigit { place: from };
     }
     Coefficient::Digits {
         end,
-        c: digits.value,
+        c: digits.kept,
+        zeros: digits.zeros,
         fraction: end - from,
     }
 }
@@ -134,22 +190,24 @@ fn coefficient_at(s: &[u8], at: usize) -> Coefficient
     ensures { λ r. ⌜ r ≡ cappedCoefficient (coefficientAt (now (s .entry)) at) ⌝ }
 {
     if byte_at(s, at) == b'0' {
-        return fraction_at(s, at + 1, 0);
+        return fraction_at(s, at + 1, 0, 0, 0);
     }
-    let digits = run_from(s, at, 0);
+    let digits = run_from(s, at, 0, 0, 0);
     let end = digits.end;
     if end == at {
         return Coefficient::NoDigit { place: at };
     }
-    let c = digits.value;
-    fraction_at(s, end, c)
+    let value = digits.value;
+    let kept = digits.kept;
+    let zeros = digits.zeros;
+    fraction_at(s, end, value, kept, zeros)
 }
 
 // The exponent's digits, behind its sign.
 fn power_at(s: &[u8], at: usize, below: bool) -> Exponent
     ensures { λ r. ⌜ r ≡ cappedExponent (powerAt (now (s .entry)) at below) ⌝ }
 {
-    let digits = run_from(s, at, 0);
+    let digits = run_from(s, at, 0, 0, 0);
     let end = digits.end;
     if end == at {
         return Exponent::NoPower { place: at };
@@ -193,37 +251,53 @@ fn exponent_at(s: &[u8], at: usize) -> Exponent
     }
 }
 
-// The value of c, a count of fraction digits and an exponent, or that it is outside the limits.
-fn value_of(negative: bool, c: u64, fraction: u64, below: bool, size: u64) -> Value
-    requires { ⌜ (fraction < 2 ^ 63) × (size ≤ cap) ⌝ }
-    ensures { λ r. ⌜ r ≡ valueOf negative c fraction below size ⌝ }
+// The value of c, which ends in no zero, with `zeros` behind it, a count of fraction digits and an
+// exponent; or that it is outside the limits. `room` is what is left of the limit on p.
+fn value_of(negative: bool, c: u64, zeros: u64, fraction: u64, below: bool, size: u64) -> Value
+    requires { ⌜ (zeros < 2 ^ 63) × (fraction < 2 ^ 63) × (size ≤ cap) ⌝ }
+    ensures { λ r. ⌜ r ≡ valueOf negative c zeros fraction below size ⌝ }
 {
+    if c == 0 {
+        return Value::Fits {
+            negative: NO_SIGN,
+            c: 0,
+            p15: 15,
+        };
+    }
     if LARGEST < c {
         return Value::Beyond;
     }
     if below {
-        if 15 < size {
+        if zeros + 15 < fraction {
             return Value::Beyond;
         }
-        if 15 < size + fraction {
+        let room = zeros + 15 - fraction;
+        if room < size {
+            return Value::Beyond;
+        }
+        if 30 < room - size {
             return Value::Beyond;
         }
         return Value::Fits {
             negative,
             c,
-            p15: (15 - (size + fraction)) as u32,
+            p15: (room - size) as u32,
         };
     }
-    if size + 15 < fraction {
+    if fraction + 15 < size {
         return Value::Beyond;
     }
-    if fraction + 15 < size {
+    let room = fraction + 15 - size;
+    if room < zeros {
+        return Value::Beyond;
+    }
+    if 30 < room - zeros {
         return Value::Beyond;
     }
     Value::Fits {
         negative,
         c,
-        p15: (size + 15 - fraction) as u32,
+        p15: (30 - (room - zeros)) as u32,
     }
 }
 
@@ -238,14 +312,14 @@ fn stopped(place: usize) -> Number
 }
 
 // The number whose digits before any exponent end at `at`.
-fn powered_at(s: &[u8], at: usize, negative: bool, c: u64, fraction: usize) -> Number
-    requires { ⌜ fraction ≤ length (now s) ⌝ }
-    ensures { λ r. ⌜ r ≡ withExponent negative c fraction (exponentAt (now (s .entry)) at) ⌝ }
+fn powered_at(s: &[u8], at: usize, negative: bool, c: u64, zeros: usize, fraction: usize) -> Number
+    requires { ⌜ (zeros ≤ length (now s)) × (fraction ≤ length (now s)) ⌝ }
+    ensures { λ r. ⌜ r ≡ withExponent negative c zeros fraction (exponentAt (now (s .entry)) at) ⌝ }
 {
     let exponent = exponent_at(s, at);
     match exponent {
         Exponent::Power { end, below, size } => {
-            let value = value_of(negative, c, fraction as u64, below, size);
+            let value = value_of(negative, c, zeros as u64, fraction as u64, below, size);
             Number {
                 reading: Reading::Whole { end },
                 value,
@@ -261,7 +335,12 @@ fn unsigned_at(s: &[u8], at: usize, negative: bool) -> Number
 {
     let digits = coefficient_at(s, at);
     match digits {
-        Coefficient::Digits { end, c, fraction } => powered_at(s, end, negative, c, fraction),
+        Coefficient::Digits {
+            end,
+            c,
+            zeros,
+            fraction,
+        } => powered_at(s, end, negative, c, zeros, fraction),
         Coefficient::NoDigit { place } => stopped(place),
     }
 }

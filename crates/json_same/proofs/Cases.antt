@@ -4,11 +4,10 @@ use Prim.Native.Nat.{ℕ}
 use mathlib.Core.Path.{_≡_, refl}
 use mathlib.Core.Bool.{true, false}
 use mathlib.Core.List.{List, [], _∷_}
-use Rattle.json_bytes.specs.Reads.{within}
-use Rattle.json_chars.specs.Step.{stepAt, escapeAt, joined, unitAt, digitAt, hexDigit, escapedAt, isPair}
-use Rattle.json_chars.specs.Chars.{charsFrom, charsAt}
+use Rattle.json_same.proofs.Opens.{open-same}
+use Rattle.json_chars.specs.Chars.{charsAt}
 use Rattle.json_same.specs.declared.Case.the-variants.{Kept, Folded}
-use Rattle.json_same.specs.Same.{casedAs, sameList, sameAs}
+use Rattle.json_same.specs.Same.{sameAs}
 
 -- `"ENG-01"`, `"eng-01"`, `"eng-0"`, `"\u0049D"`, `"id"`, and the name `ID`
 abbrev upper : List ℕ
@@ -31,10 +30,10 @@ name = 73 ∷ 68 ∷ []
 
 -- P1: `ENG-01` and `eng-01` are one ID, and two names; a string is not the same as a beginning of it
 pub ids : (sameAs Folded (charsAt upper 0) (charsAt lower 0) ∷ sameAs Kept (charsAt upper 0) (charsAt lower 0) ∷ sameAs Folded (charsAt shorter 0) (charsAt lower 0) ∷ []) ≡ (true ∷ false ∷ false ∷ [])
-unfolding sameAs sameList casedAs within charsAt charsFrom stepAt
+unfolding open-same
 ids = refl
 
 -- decoded, `\u0049D` is `ID`; `id` is not, as a name
 pub names : (sameAs Kept (charsAt escaped 0) name ∷ sameAs Kept (charsAt small 0) name ∷ sameAs Folded (charsAt small 0) name ∷ []) ≡ (true ∷ false ∷ true ∷ [])
-unfolding sameAs sameList casedAs within charsAt charsFrom stepAt escapeAt joined unitAt digitAt hexDigit escapedAt isPair
+unfolding open-same
 names = refl

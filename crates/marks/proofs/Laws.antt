@@ -13,51 +13,19 @@ use lib.ListN.{length, getD, set, take, drop, length-drop, drop-of-length-le}
 use lib.Seq.{drop-cons, set-at, append-snoc, drop-drop, length-take-le}
 use lib.Dec.{leb, ltb, eqb}
 use Rattle.json_bytes.proofs.Laws.{by-test, both-left, both-right}
-use Rattle.json_same.specs.Same.{sameAs, sameList, casedAs}
 use Rattle.bundle_bytes.specs.Pieces.{changed, written}
 use Rattle.bundle_bytes.specs.Files.{File, Left, Given, isPresent, bytesOf, newFile}
 use Rattle.bundle_bytes.proofs.Laws.{written-length, written-fits, written-part, written-part-before, written-part-behind, changed-other}
-use Rattle.table_fields.specs.Ascii.{codes}
 use Rattle.table_fields.specs.Fields.{tables, fieldsOf}
-use Rattle.table_fields.specs.Enumerations.{enumerations, valuesOf}
-use Rattle.table_fields.specs.Flat.{countBefore, firstField, firstValue, partOf, fieldRows, fieldNames, rowsAfter, fieldsFrom, valuePlaces, valueTexts}
+use Rattle.table_fields.specs.Flat.{countBefore, firstField, partOf, fieldRows, fieldNames, rowsAfter, fieldsFrom, valuePlaces, valueTexts}
 use Rattle.table_fields.proofs.Laws.{upFrom, each, part-is, part-past}
 use Rattle.table_fields.proofs.Facts.{no-fields, fields-within, file-fields, few-fields}
 use Rattle.table_file.specs.declared.FileRead.{FileRead}
 use Rattle.table_file.specs.File.{fileOf}
 use Rattle.table_file.proofs.Kept.{file-length}
 use Rattle.rule_cells.specs.Cells.{table}
-use Rattle.table_name.specs.Name.{indexOf}
-use Rattle.rule_rows.specs.Rules.{
-  no,
-  position,
-  value,
-  ids,
-  integers,
-  dates,
-  key1,
-  key2,
-  key3,
-  enumeration,
-  always,
-  isGiven,
-  isTrue,
-  is,
-  nullUnless,
-  givenIf,
-  givenUnless,
-  target,
-  noneBelow,
-  someAbove,
-  together,
-  levels,
-  parents,
-  parentTypes,
-  rules,
-  ruleRows,
-  rowCell,
-  readsFile,
-}
+use Rattle.rule_rows.proofs.Opens.{open-rows}
+use Rattle.rule_rows.specs.Rules.{ruleRows, rowCell, readsFile}
 use Rattle.rules.specs.Judge.{ruleBreak, isJudged, markOf}
 use Rattle.rules.specs.declared.Break.{Break}
 use Rattle.rules.specs.declared.Mark.{Mark}
@@ -358,48 +326,7 @@ rowRight m =
     ltb m 20 || (ltb 0 (rowCell ruleRows m 1) && (ltb (rowCell ruleRows m 1) 20 && ltb (rowCell ruleRows m 2) 20))
 
 rows-right : map rowRight (upFrom 0 81) ≡ map (λ _. true) (upFrom 0 81)
-unfolding
-    rowRight
-    upFrom
-    no
-    position
-    value
-    ids
-    integers
-    dates
-    key1
-    key2
-    key3
-    enumeration
-    always
-    isGiven
-    isTrue
-    is
-    nullUnless
-    givenIf
-    givenUnless
-    target
-    noneBelow
-    someAbove
-    together
-    levels
-    parents
-    parentTypes
-    rules
-    ruleRows
-    rowCell
-    flatten
-    sameAs
-    sameList
-    casedAs
-    codes
-    tables
-    fieldsOf
-    enumerations
-    valuesOf
-    countBefore
-    firstValue
-    indexOf
+unfolding open-rows flatten rowRight upFrom
 rows-right = refl
 
 module _ (m : ℕ) (rule : 20 ≤ m) (few : m < 81) where

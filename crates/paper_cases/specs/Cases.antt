@@ -160,11 +160,16 @@ cases =
     -- P4 `-0` isn't below zero: mark 68, "no hours below zero"
     ruleMark 68 (withHours ("-0" ∷ [])) gives holds ∷
     ruleMark 68 (withHours ("-1" ∷ [])) gives broken 1 ∷
-    -- P5 `999999999999999` fits, `1000000000000000` is 18: as Decimal and as Integer
+    -- P5 `999999999999999` fits; `1000000000000000` fits as a Decimal (c 1, p 15: order 1 of document 02) and is 18 as an
+    -- Integer
     fileMark 7 (withHours ("999999999999999" ∷ [])) gives holds ∷
-    fileMark 7 (withHours ("1000000000000000" ∷ [])) gives mark 18 37 ∷
+    fileMark 7 (withHours ("1000000000000000" ∷ [])) gives holds ∷
     fileMark 7 (withOrdinal ("999999999999999" ∷ [])) gives holds ∷
     fileMark 7 (withOrdinal ("1000000000000000" ∷ [])) gives mark 18 29 ∷
+    -- order 1: `8.0000000000000000` and `0e99` fit, `10e15` is 18: its p is 16
+    fileMark 7 (withHours ("8.0000000000000000" ∷ [])) gives holds ∷
+    fileMark 7 (withHours ("0e99" ∷ [])) gives holds ∷
+    fileMark 7 (withHours ("10e15" ∷ [])) gives mark 18 37 ∷
     -- P6 Decimal `1e15` fits, `1e16` is 18; Integer `1e15` is 18
     fileMark 7 (withHours ("1e15" ∷ [])) gives holds ∷
     fileMark 7 (withHours ("1e16" ∷ [])) gives mark 18 37 ∷

@@ -3,15 +3,10 @@
 use Prim.Native.Nat.{ℕ}
 use mathlib.Core.Path.{_≡_, refl}
 use mathlib.Core.List.{List, [], _∷_, map}
-use Rattle.json_bytes.specs.Reads.{within, leading}
-use Rattle.json_chars.specs.Step.{stepAt}
-use Rattle.json_chars.specs.Chars.{charsFrom, charsAt}
-use Rattle.json_same.specs.Same.{casedAs, sameList, sameAs}
-use Rattle.json_number.specs.Number.{isDigit, formed, fractionAt, coefficientAt, exponentAt, withinLimits, limited, valueOf, withExponent, withCoefficient, numberAt, wholeOf, integerOf}
-use Rattle.json_date.specs.Date.{isLeap, monthDays, isDay, digitsAt, twoAt, hasForm, yearOf, monthOf, dayOf, dateOf}
-use Rattle.rule_cells.specs.Cells.{table, cellOf, startOf, isGiven, textOf, sameText, integerIn, dateIn, firstFrom, firstOf}
+use Rattle.rule_key.proofs.Opens.{open-keys}
+use Rattle.rule_cells.specs.Cells.{table}
 use Rattle.rule_key.specs.declared.Key.{Key}
-use Rattle.rule_key.specs.Key.{sameInteger, sameDate, sameField, sameKey, earliest, repeats, keyRule}
+use Rattle.rule_key.specs.Key.{keyRule}
 
 abbrev bytes : List ℕ
 bytes =
@@ -43,5 +38,5 @@ answer k = (keyRule (table bytes cells 6 4) k .«record», keyRule (table bytes 
 
 -- by the ID, the Ordinal, the Date, the first two, and all three
 pub keys : map answer (key 1 0 0 ∷ key 0 2 0 ∷ key 0 0 3 ∷ key 1 2 0 ∷ key 1 2 3 ∷ []) ≡ ((3, 1) ∷ (2, 1) ∷ (2, 1) ∷ (4, 1) ∷ (0, 0) ∷ [])
-unfolding within leading stepAt charsFrom charsAt casedAs sameList sameAs isDigit formed fractionAt coefficientAt exponentAt withinLimits limited valueOf withExponent withCoefficient numberAt wholeOf integerOf isLeap monthDays isDay digitsAt twoAt hasForm yearOf monthOf dayOf dateOf cellOf startOf isGiven textOf sameText integerIn dateIn firstFrom firstOf sameInteger sameDate sameField sameKey earliest repeats keyRule
+unfolding open-keys
 keys = refl

@@ -1,3 +1,4 @@
+pub mod Opens
 pub mod Cases
 pub mod Compare
 pub mod Laws

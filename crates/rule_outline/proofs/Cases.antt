@@ -3,47 +3,9 @@
 use Prim.Native.Nat.{ℕ}
 use mathlib.Core.Path.{_≡_, refl}
 use mathlib.Core.List.{List, [], _∷_, map}
-use Rattle.json_bytes.specs.Reads.{within, leading}
-use Rattle.json_chars.specs.Chars.{charsFrom, charsAt}
-use Rattle.json_chars.specs.Step.{stepAt}
-use Rattle.json_same.specs.Same.{casedAs, sameList, sameAs}
-use Rattle.json_number.specs.Number.{
-  isDigit,
-  formed,
-  fractionAt,
-  coefficientAt,
-  powerAt,
-  signedAt,
-  exponentAt,
-  withinLimits,
-  limited,
-  valueOf,
-  withExponent,
-  withCoefficient,
-  numberAt,
-  wholeOf,
-  integerOf,
-}
-use Rattle.rule_cells.specs.Cells.{Table, table, cellOf, startOf, isGiven, textOf, sameText, isWord, integerIn, firstFrom, firstOf}
-use Rattle.rule_outline.specs.Outline.{
-  raised,
-  levelOf,
-  lowerBefore,
-  parentBy,
-  parentOf,
-  parentsUpTo,
-  runBreaks,
-  levelBreaks,
-  levelRule,
-  parentShown,
-  outlineAt,
-  parentBreaks,
-  parentRule,
-  someOf,
-  isTyped,
-  parentTypeBreaks,
-  parentTypeRule,
-}
+use Rattle.rule_outline.proofs.Opens.{open-outlines}
+use Rattle.rule_cells.specs.Cells.{Table, table}
+use Rattle.rule_outline.specs.Outline.{levelOf, parentOf, parentsUpTo, levelRule, parentRule, parentTypeRule}
 use Rattle.rule_outline.specs.declared.Outline.{Outline}
 
 -- a column of Levels, one digit each, as its text and how many there are
@@ -77,7 +39,7 @@ answers =
     ∷ []
 
 pub outlines : map read columns ≡ answers
-unfolding within leading isDigit formed fractionAt coefficientAt powerAt signedAt exponentAt withinLimits limited valueOf withExponent withCoefficient numberAt wholeOf integerOf cellOf startOf isGiven integerIn firstFrom firstOf raised levelOf lowerBefore parentBy parentsUpTo runBreaks levelBreaks levelRule
+unfolding open-outlines
 outlines = refl
 
 -- ---- Two records, 1 "A" and 2 "B", with "a" behind them, and where the ParentTaskID of each stands; 0 and 0 for null
@@ -96,7 +58,7 @@ abbrev given : List (ℕ × ℕ × ℕ × ℕ)
 given = (0, 0, 8, 11) ∷ (0, 0, 5, 8) ∷ (0, 0, 0, 0) ∷ (8, 11, 8, 11) ∷ []
 
 pub parents-given : map (λ p. parentRule (outline p) 0 1 2 (parentOf (outline p) 0)) given ≡ broken 0 0 ∷ broken 2 1 ∷ broken 2 1 ∷ broken 1 0 ∷ []
-unfolding within leading isDigit formed fractionAt coefficientAt powerAt signedAt exponentAt withinLimits limited valueOf withExponent withCoefficient numberAt wholeOf integerOf charsFrom charsAt stepAt casedAs sameList sameAs cellOf startOf isGiven textOf sameText integerIn firstFrom firstOf raised levelOf lowerBefore parentBy parentShown outlineAt parentBreaks parentRule
+unfolding open-outlines
 parents-given = refl
 
 -- a task "a" of type "summary", or of type "a", or no task
@@ -104,5 +66,5 @@ abbrev tasks : ℕ × ℕ × ℕ → Table
 tasks k = table (34 ∷ 97 ∷ 34 ∷ 34 ∷ 115 ∷ 117 ∷ 109 ∷ 109 ∷ 97 ∷ 114 ∷ 121 ∷ 34 ∷ []) (0 ∷ 3 ∷ k .0 ∷ k .1 ∷ []) 4 (k .2)
 
 pub parents-typed : map (λ k. parentTypeRule (outline (0, 0, 0, 0)) 0 1 (parentOf (outline (0, 0, 0, 0)) 0) (tasks k) 0 1 (83 ∷ 85 ∷ 77 ∷ 77 ∷ 65 ∷ 82 ∷ 89 ∷ [])) ((3, 12, 1) ∷ (0, 3, 1) ∷ (3, 12, 0) ∷ []) ≡ broken 0 0 ∷ broken 2 1 ∷ broken 2 1 ∷ []
-unfolding within leading isDigit formed fractionAt coefficientAt powerAt signedAt exponentAt withinLimits limited valueOf withExponent withCoefficient numberAt wholeOf integerOf charsFrom charsAt stepAt casedAs sameList sameAs cellOf startOf isGiven textOf sameText isWord integerIn firstFrom firstOf raised levelOf lowerBefore parentBy parentShown outlineAt someOf isTyped parentTypeBreaks parentTypeRule
+unfolding open-outlines
 parents-typed = refl

@@ -1,3 +1,4 @@
+pub mod Opens
 pub mod Parents
 pub mod Laws
 pub mod Rules

@@ -4,42 +4,8 @@ use Prim.Native.Nat.{ℕ, zero, suc, _+_}
 use mathlib.Core.Path.{_≡_, refl}
 use mathlib.Core.Bool.{true, false}
 use mathlib.Core.List.{List, [], _∷_, flatten}
-use Rattle.json_same.specs.Same.{sameAs, sameList, casedAs}
-use Rattle.table_fields.specs.Ascii.{codes}
-use Rattle.table_fields.specs.Fields.{tables, fieldsOf}
-use Rattle.table_fields.specs.Enumerations.{enumerations, valuesOf}
-use Rattle.table_fields.specs.Flat.{countBefore, firstValue}
-use Rattle.table_name.specs.Name.{indexOf}
-use Rattle.rule_rows.specs.Rules.{
-  no,
-  position,
-  value,
-  ids,
-  integers,
-  dates,
-  key1,
-  key2,
-  key3,
-  enumeration,
-  always,
-  isGiven,
-  isTrue,
-  is,
-  nullUnless,
-  givenIf,
-  givenUnless,
-  target,
-  noneBelow,
-  someAbove,
-  together,
-  levels,
-  parents,
-  parentTypes,
-  rules,
-  ruleRows,
-  rowCell,
-  readsFile,
-}
+use Rattle.rule_rows.proofs.Opens.{open-rows}
+use Rattle.rule_rows.specs.Rules.{ruleRows, readsFile}
 
 -- of n marks from mark m on, those that read a file
 unfoldable pub touched : ℕ → ℕ → ℕ → List ℕ
@@ -47,46 +13,5 @@ touched file zero m = []
 touched file (suc n) m = elim (readsFile ruleRows m file) [ true ↦ m ∷ touched file n (m + 1) | false ↦ touched file n (m + 1) ]
 
 pub tasks-touch : touched 9 81 0 ≡ 9 ∷ 25 ∷ 39 ∷ 40 ∷ 41 ∷ 42 ∷ 51 ∷ 53 ∷ 55 ∷ 56 ∷ 57 ∷ 59 ∷ 60 ∷ 64 ∷ 71 ∷ 72 ∷ 73 ∷ 74 ∷ 80 ∷ []
-unfolding
-    touched
-    no
-    position
-    value
-    ids
-    integers
-    dates
-    key1
-    key2
-    key3
-    enumeration
-    always
-    isGiven
-    isTrue
-    is
-    nullUnless
-    givenIf
-    givenUnless
-    target
-    noneBelow
-    someAbove
-    together
-    levels
-    parents
-    parentTypes
-    rules
-    ruleRows
-    rowCell
-    readsFile
-    flatten
-    sameAs
-    sameList
-    casedAs
-    codes
-    tables
-    fieldsOf
-    enumerations
-    valuesOf
-    countBefore
-    firstValue
-    indexOf
+unfolding open-rows flatten touched
 tasks-touch = refl

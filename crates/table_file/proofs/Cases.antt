@@ -5,32 +5,11 @@ use Prim.Native.String.{String}
 use mathlib.Core.Path.{_≡_, refl}
 use mathlib.Core.Bool.{true, false}
 use mathlib.Core.List.{List, [], _∷_, map}
-use Rattle.json_bytes.specs.Reads.{within, leading, isSpace, spacesEnd, wordAt, literalAt}
-use Rattle.json_chars.specs.Step.{letterEscape, hexDigit, digitAt, unitAt, unitOf, escapedAt, isPair, joined, escapeAt, stepAt}
-use Rattle.json_chars.specs.Chars.{charsFrom, charsAt}
-use Rattle.json_text.specs.Text.{textFrom, textAt, barred, isWhite, wrongSpace, outsideID, ruleOf, none, wrongHere, firstOf, closesAt, wrongFrom, wrongAt, textRead}
-use Rattle.json_same.specs.Same.{casedAs, sameList, sameAs}
+use Rattle.table_file.proofs.Opens.{open-files}
 use Rattle.table_fields.specs.Ascii.{codes}
-use Rattle.table_fields.specs.Fields.{tables, fieldsOf}
-use Rattle.table_value.specs.Value.{textType, textHeld, stringIn, stringValue, literalIn, literalValue, startsNumber, opens, valueAt, notObjectOf, notObjectAt}
-use Rattle.table_name.specs.Name.{indexOf, namedAt, nameAt, colonAt, firstIn, nextAfter}
-use Rattle.table_record.specs.Record.{startCell, isRead, endCell, stored, cleared, typeOf, storedValue, afterColon, afterName, pairAt, lacks, isMissing, closedAt, pairsFrom, membersOf, hasRoom, recordAt}
-use Rattle.table_file.specs.Table.{
-  holds,
-  fault,
-  TableRead,
-  tableRead,
-  endOfFile,
-  singleRead,
-  singleOf,
-  singleAt,
-  elementAt,
-  elementsFrom,
-  elementsOf,
-  arrayAt,
-  tableOf,
-}
-use Rattle.table_file.specs.File.{fileType, demanded, omitted, typeFile, fileOf}
+use Rattle.table_fields.specs.Fields.{fieldsOf}
+use Rattle.table_file.specs.Table.{holds, fault, TableRead, tableRead}
+use Rattle.table_file.specs.File.{fileOf}
 
 -- room for two records of Resources
 abbrev cellsBefore : List ℕ
@@ -57,7 +36,7 @@ files =
 
 pub marks : map (λ file. resources file .read) files
     ≡ (fault 19 27 ∷ fault 19 2 ∷ holds 0 ∷ holds 0 ∷ fault 11 2 ∷ fault 11 1 ∷ fault 11 0 ∷ fault 12 0 ∷ fault 12 1 ∷ fault 11 4 ∷ fault 12 1 ∷ [])
-unfolding within leading isSpace spacesEnd wordAt literalAt letterEscape hexDigit digitAt unitAt unitOf escapedAt isPair joined escapeAt stepAt charsFrom charsAt textFrom textAt barred isWhite wrongSpace outsideID ruleOf none wrongHere firstOf closesAt wrongFrom wrongAt textRead casedAs sameList sameAs codes tables fieldsOf textType textHeld stringIn stringValue literalIn literalValue startsNumber opens valueAt notObjectOf notObjectAt indexOf namedAt nameAt colonAt firstIn nextAfter startCell isRead endCell stored cleared typeOf storedValue afterColon afterName pairAt lacks isMissing closedAt pairsFrom membersOf hasRoom recordAt endOfFile singleRead singleOf singleAt elementAt elementsFrom elementsOf arrayAt tableOf fileType demanded omitted typeFile fileOf
+unfolding open-files
 marks = refl
 
 -- the cells of the records stand one record behind the other
@@ -66,23 +45,23 @@ two = "[{\"ID\":\"1\",\"Name\":\"A\",\"ElementOfCostID\":\"X\"}, {\"Name\":\"B\"
 
 pub records : resources two
     ≡ tableRead (7 ∷ 10 ∷ 18 ∷ 21 ∷ 40 ∷ 43 ∷ 0 ∷ 0 ∷ 63 ∷ 66 ∷ 54 ∷ 57 ∷ 85 ∷ 88 ∷ 0 ∷ 0 ∷ []) (holds 2)
-unfolding within leading isSpace spacesEnd wordAt literalAt letterEscape hexDigit digitAt unitAt unitOf escapedAt isPair joined escapeAt stepAt charsFrom charsAt textFrom textAt barred isWhite wrongSpace outsideID ruleOf none wrongHere firstOf closesAt wrongFrom wrongAt textRead casedAs sameList sameAs codes tables fieldsOf textType textHeld stringIn stringValue literalIn literalValue startsNumber opens valueAt notObjectOf notObjectAt indexOf namedAt nameAt colonAt firstIn nextAfter startCell isRead endCell stored cleared typeOf storedValue afterColon afterName pairAt lacks isMissing closedAt pairsFrom membersOf hasRoom recordAt endOfFile singleRead singleOf singleAt elementAt elementsFrom elementsOf arrayAt tableOf fileType demanded omitted typeFile fileOf
+unfolding open-files
 records = refl
 
 -- a singleton is an object
 pub singletons : map (λ file. fileOf 3 true (fieldsOf 16) (codes file) cellsBefore .read) ("{}" ∷ "[]" ∷ "null " ∷ [])
     ≡ (fault 19 1 ∷ fault 12 0 ∷ fault 12 0 ∷ [])
-unfolding within leading isSpace spacesEnd wordAt literalAt letterEscape hexDigit digitAt unitAt unitOf escapedAt isPair joined escapeAt stepAt charsFrom charsAt textFrom textAt barred isWhite wrongSpace outsideID ruleOf none wrongHere firstOf closesAt wrongFrom wrongAt textRead casedAs sameList sameAs codes tables fieldsOf textType textHeld stringIn stringValue literalIn literalValue startsNumber opens valueAt notObjectOf notObjectAt indexOf namedAt nameAt colonAt firstIn nextAfter startCell isRead endCell stored cleared typeOf storedValue afterColon afterName pairAt lacks isMissing closedAt pairsFrom membersOf hasRoom recordAt endOfFile singleRead singleOf singleAt elementAt elementsFrom elementsOf arrayAt tableOf fileType demanded omitted typeFile fileOf
+unfolding open-files
 singletons = refl
 
 -- 21: of the omitted files 0, 1 and 3 alone
 pub omissions : map (λ file. fileOf file false [] [] [] .read) (0 ∷ 1 ∷ 2 ∷ 3 ∷ 4 ∷ 19 ∷ [])
     ≡ (fault 21 0 ∷ fault 21 0 ∷ holds 0 ∷ fault 21 0 ∷ holds 0 ∷ holds 0 ∷ [])
-unfolding codes sameList fileType demanded omitted typeFile fileOf
+unfolding open-files
 omissions = refl
 
 -- 22: file 0 is its 39 bytes, and neither fewer nor more
 pub types : map (λ file. fileOf 0 true [] (codes file) [] .read) ("IPMDAR_SCHEDULE_PERFORMANCE_DATASET/1.0" ∷ "IPMDAR_SCHEDULE_PERFORMANCE_DATASET/1.0 " ∷ "IPMDAR_SCHEDULE_PERFORMANCE_DATASET/1." ∷ "" ∷ [])
     ≡ (holds 0 ∷ fault 22 0 ∷ fault 22 0 ∷ fault 22 0 ∷ [])
-unfolding codes sameList fileType demanded omitted typeFile fileOf
+unfolding open-files
 types = refl

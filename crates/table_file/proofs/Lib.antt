@@ -1,3 +1,4 @@
+pub mod Opens
 pub mod Cases
 pub mod Kept
 pub mod KindBound

@@ -4,37 +4,11 @@ use Prim.Native.Nat.{ℕ}
 use Prim.Native.String.{String}
 use mathlib.Core.Path.{_≡_, refl}
 use mathlib.Core.List.{List, [], _∷_, map}
-use Rattle.json_bytes.specs.Reads.{within, leading, isSpace, spacesEnd, wordAt, literalAt}
+use Rattle.table_record.proofs.Opens.{open-records}
 use Rattle.json_bytes.specs.declared.Reading.the-variants.{Whole, Fault}
-use Rattle.json_chars.specs.Step.{letterEscape, hexDigit, digitAt, unitAt, unitOf, escapedAt, isPair, joined, escapeAt, stepAt}
-use Rattle.json_chars.specs.Chars.{charsFrom, charsAt}
-use Rattle.json_text.specs.Text.{textFrom, textAt, barred, isWhite, wrongSpace, outsideID, ruleOf, none, wrongHere, firstOf, closesAt, wrongFrom, wrongAt, textRead}
-use Rattle.json_same.specs.Same.{casedAs, sameList, sameAs}
 use Rattle.table_fields.specs.Ascii.{codes}
-use Rattle.table_fields.specs.Fields.{tables, fieldsOf}
-use Rattle.table_value.specs.Value.{textType, textHeld, stringIn, stringValue, literalIn, literalValue, startsNumber, opens, valueAt}
-use Rattle.table_name.specs.Name.{indexOf, namedAt, nameAt, colonAt, firstIn, nextAfter}
-use Rattle.table_record.specs.Record.{
-  Filled,
-  filled,
-  startCell,
-  isRead,
-  endCell,
-  stored,
-  cleared,
-  typeOf,
-  storedValue,
-  afterColon,
-  afterName,
-  pairAt,
-  lacks,
-  isMissing,
-  closedAt,
-  pairsFrom,
-  membersOf,
-  hasRoom,
-  recordAt,
-}
+use Rattle.table_fields.specs.Fields.{fieldsOf}
+use Rattle.table_record.specs.Record.{Filled, filled, recordAt}
 
 -- the first record of a file, read into cells of which the first and the last are not its own
 abbrev cellsBefore : List ℕ
@@ -60,17 +34,17 @@ files =
 
 pub faults : map (λ file. firstRecord file .outcome) files
     ≡ (Fault 19 27 ∷ Fault 19 2 ∷ Fault 14 12 ∷ Fault 14 12 ∷ Fault 13 2 ∷ Fault 15 24 ∷ Fault 11 12 ∷ Fault 11 12 ∷ Fault 11 7 ∷ Fault 11 11 ∷ [])
-unfolding within leading isSpace spacesEnd wordAt literalAt letterEscape hexDigit digitAt unitAt unitOf escapedAt isPair joined escapeAt stepAt charsFrom charsAt textFrom textAt barred isWhite wrongSpace outsideID ruleOf none wrongHere firstOf closesAt wrongFrom wrongAt textRead casedAs sameList sameAs codes tables fieldsOf textType textHeld stringIn stringValue literalIn literalValue startsNumber opens valueAt indexOf namedAt nameAt colonAt firstIn nextAfter startCell isRead endCell stored cleared typeOf storedValue afterColon afterName pairAt lacks isMissing closedAt pairsFrom membersOf hasRoom recordAt
+unfolding open-records
 faults = refl
 
 -- the cells then: where each value starts and where it ends, 0 where a null or an empty string ends
 pub whole : firstRecord "[{\"Comments\":\"\",\"ID\": \"R1\",\"ElementOfCostID\":\"LABOR\",\"Name\":\"Fitter\"}]"
     ≡ filled (5 ∷ 22 ∷ 26 ∷ 60 ∷ 68 ∷ 45 ∷ 52 ∷ 13 ∷ 0 ∷ 7 ∷ []) (Whole 69)
-unfolding within leading isSpace spacesEnd wordAt literalAt letterEscape hexDigit digitAt unitAt unitOf escapedAt isPair joined escapeAt stepAt charsFrom charsAt textFrom textAt barred isWhite wrongSpace outsideID ruleOf none wrongHere firstOf closesAt wrongFrom wrongAt textRead casedAs sameList sameAs codes tables fieldsOf textType textHeld stringIn stringValue literalIn literalValue startsNumber opens valueAt indexOf namedAt nameAt colonAt firstIn nextAfter startCell isRead endCell stored cleared typeOf storedValue afterColon afterName pairAt lacks isMissing closedAt pairsFrom membersOf hasRoom recordAt
+unfolding open-records
 whole = refl
 
 -- what was read up to a fault stays, and the cells of the fields that are absent are cleared
 pub stays : firstRecord "[{\"ID\":\"R1\",\"Name\":null,\"Comments\":[]}]"
     ≡ filled (5 ∷ 7 ∷ 11 ∷ 19 ∷ 0 ∷ 0 ∷ 0 ∷ 0 ∷ 0 ∷ 7 ∷ []) (Fault 15 35)
-unfolding within leading isSpace spacesEnd wordAt literalAt letterEscape hexDigit digitAt unitAt unitOf escapedAt isPair joined escapeAt stepAt charsFrom charsAt textFrom textAt barred isWhite wrongSpace outsideID ruleOf none wrongHere firstOf closesAt wrongFrom wrongAt textRead casedAs sameList sameAs codes tables fieldsOf textType textHeld stringIn stringValue literalIn literalValue startsNumber opens valueAt indexOf namedAt nameAt colonAt firstIn nextAfter startCell isRead endCell stored cleared typeOf storedValue afterColon afterName pairAt lacks isMissing closedAt pairsFrom membersOf hasRoom recordAt
+unfolding open-records
 stays = refl

@@ -136,7 +136,7 @@ fn answer_equal_numbers(case: &Case) -> Answer {
     let first = number_at(&case.a, case.at as usize);
     let second = number_at(&case.b, case.other as usize);
     match (first, second) {
-        (Some(first), Some(second)) => yes_or_no(first.normal() == second.normal()),
+        (Some(first), Some(second)) => yes_or_no(first == second),
         _ => NO,
     }
 }
@@ -208,6 +208,10 @@ mod tests {
     #[test]
     fn numbers() {
         assert_eq!(ask(10, 0, 0, b"-12.5e3,", b""), [0, 7, 125, 117]);
+        assert_eq!(ask(10, 0, 0, b"8.0000000000000000", b""), [0, 18, 8, 15]);
+        assert_eq!(ask(10, 0, 0, b"-0e99", b""), [0, 5, 0, 15]);
+        assert_eq!(ask(10, 0, 0, b"-1000000000000000", b""), [0, 17, 1, 130]);
+        assert_eq!(ask(10, 0, 0, b"10e15", b""), [2, 5, 0, 0]);
         assert_eq!(ask(10, 0, 0, b"1e16", b""), [2, 4, 0, 0]);
         assert_eq!(ask(10, 0, 0, b"1e", b""), [1, 11, 2, 0]);
         assert_eq!(ask(10, 2, 0, b"1", b""), [1, 11, 2, 0]);
@@ -215,6 +219,7 @@ mod tests {
         assert_eq!(ask(11, 0, 0, b"-0", b""), [0, 0, 0, 0]);
         assert_eq!(ask(11, 0, 0, b"0.5", b""), [1, 0, 0, 0]);
         assert_eq!(ask(11, 0, 0, b"1e15", b""), [2, 0, 0, 0]);
+        assert_eq!(ask(11, 0, 0, b"1000000000000000", b""), [2, 0, 0, 0]);
         assert_eq!(ask(11, 0, 0, b"0.5e-15", b""), [2, 0, 0, 0]);
         assert_eq!(ask(11, 0, 0, b"-", b""), [3, 0, 0, 0]);
         assert_eq!(ask(12, 0, 0, b"-0e3", b""), [0, 0, 0, 0]);
@@ -223,6 +228,7 @@ mod tests {
         assert_eq!(ask(12, 0, 0, b"1e99", b""), [3, 0, 0, 0]);
         assert_eq!(ask(13, 0, 1, b"10.0", b"x1e1"), YES);
         assert_eq!(ask(13, 0, 0, b"-0", b"0.00"), YES);
+        assert_eq!(ask(13, 0, 0, b"1000000000000000", b"1e15"), YES);
         assert_eq!(ask(13, 0, 0, b"-1", b"1"), NO);
         assert_eq!(ask(13, 0, 0, b"1e16", b"1e16"), NO);
     }

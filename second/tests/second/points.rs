@@ -54,10 +54,12 @@ fn p4_minus_zero_is_not_below_zero() {
     assert_eq!(shifts("-0").mark(69), (1, 1));
 }
 
+/// The second half as order 1 has it: c 1, p 15 as a Decimal.
 #[test]
 fn p5_fifteen_digits_fit() {
     assert_eq!(hours("999999999999999"), (0, 0));
-    assert_eq!(hours("1000000000000000"), (18, 37));
+    assert_eq!(hours("1000000000000000"), (0, 0));
+    assert_eq!(hours("1000000000000001"), (18, 37));
     assert_eq!(level("999999999999999"), (0, 0));
     assert_eq!(level("1000000000000000"), (18, 10));
 }
@@ -67,6 +69,17 @@ fn p6_powers_of_ten() {
     assert_eq!(hours("1e15"), (0, 0));
     assert_eq!(hours("1e16"), (18, 37));
     assert_eq!(level("1e15"), (18, 10));
+}
+
+/// The numbers that order 1 names.
+#[test]
+fn order_1_trailing_zeros_do_not_count() {
+    assert_eq!(hours("8.0000000000000000"), (0, 0));
+    assert_eq!(hours("0e99"), (0, 0));
+    assert_eq!(hours("10e15"), (18, 37));
+    assert_eq!(level("8.0000000000000000"), (0, 0));
+    assert_eq!(level("0e99"), (0, 0));
+    assert_eq!(level("10e15"), (18, 10));
 }
 
 #[test]

@@ -224,6 +224,33 @@ fn calendars_and_hours() {
     );
 }
 
+/// Zeros that a value doesn't need change no rule (order 1).
+#[test]
+fn padded_numbers_are_taken_by_value() {
+    let shifts = |members: &str| format!(r#"[{{"CalendarID":"C1",{members}}}]"#);
+    for hours in ["8.0000000000000000", "1000000000000000", "0.0000000000000010"] {
+        holds(69, 7, &shifts(&format!(r#""SundayWorkHours":{hours}"#)));
+        breaks(68, 1, 7, &shifts(&format!(r#""SundayWorkHours":-{hours}"#)));
+        breaks(69, 1, 7, &shifts(&format!(r#""SundayWorkHours":-{hours}"#)));
+    }
+    for zero in ["-0.0000000000000000", "-0e99", "0.000e-99999999999999999999"] {
+        holds(68, 7, &shifts(&format!(r#""SundayWorkHours":{zero}"#)));
+        breaks(69, 1, 7, &shifts(&format!(r#""SundayWorkHours":{zero}"#)));
+    }
+    let exception = |hours: &str| {
+        format!(r#"[{{"CalendarID":"C1","ExceptionDate":"2020-01-01","WorkHours":{hours}}}]"#)
+    };
+    holds(70, 8, &exception("-0.0000000000000000"));
+    breaks(70, 1, 8, &exception("-8.0000000000000000"));
+    let ordinals = |second: &str| {
+        format!(r#"[{{"CalendarID":"C1","Ordinal":7}},{{"CalendarID":"C1","Ordinal":{second}}}]"#)
+    };
+    breaks(23, 2, 7, &ordinals("7.0000000000000000"));
+    breaks(23, 2, 7, &ordinals("70000000000000000e-16"));
+    holds(23, 7, &ordinals("70000000000000000e-15"));
+    holds(78, 15, r#"[{"Level":1.0000000000000000,"TaskID":"S1"},{"Level":200e-2,"TaskID":"S2"}]"#);
+}
+
 fn tasks(rows: &[&str]) -> String {
     let row = |(index, members): (usize, &&str)| {
         format!(r#"{{"ID":"{}","Name":"N",{members}}}"#, ["S1", "S2", "T1", "T2"][index])

@@ -6,6 +6,7 @@ use denote.Ref.{now}
 use lib.Dec.{lit<}
 use Rattle.json_bytes.proofs.Laws.{inside}
 use Rattle.json_number.specs.Number.{cappedCoefficient}
+use Rattle.json_number.proofs.Digits.{carried-none}
 use Rattle.json_number.proofs.Parts.{zero-alone, no-digits, some-digits}
 use Rattle.json_number.proofs.coefficient_at.Statement.{statement}
 use Rattle.json_number.proofs.coefficient_at.Tie as tie
@@ -20,7 +21,7 @@ fraction-at-requires : tie.Need-fraction-at-requires
 fraction-at-requires c κs = search needs
 
 returns : tie.Need-returns
-returns c = c .fraction-at .ensures ∙ ap cappedCoefficient (sym (zero-alone _ _ _ (c .before .before .byte-at .ensures) (c .before .if1 .taken)))
+returns c = c .fraction-at .ensures 0 carried-none ∙ ap cappedCoefficient (sym (zero-alone _ _ _ (c .before .before .byte-at .ensures) (c .before .if1 .taken)))
 
 run-from-requires : tie.Need-run-from-requires
 run-from-requires c κs = search needs
@@ -32,7 +33,7 @@ fraction-at-requires-2 : tie.Need-fraction-at-requires-2
 fraction-at-requires-2 c κs = search needs
 
 returns-3 : tie.Need-returns-3
-returns-3 c = c .fraction-at2 .ensures ∙ some-digits _ _ _ (c .before .before .before .before .byte-at .ensures) (c .before .before .before .if1 .left) (c .before .before .run-from .ensures .0) (c .before .before .run-from .ensures .1) (c .before .if2 .left)
+returns-3 c = c .fraction-at2 .ensures _ (c .before .before .run-from .ensures .2 0 carried-none) ∙ ap cappedCoefficient (sym (some-digits _ _ _ (c .before .before .before .before .byte-at .ensures) (c .before .before .before .if1 .left) (c .before .before .run-from .ensures .0) (c .before .if2 .left)))
 
 pub coefficient-at-spec : {M : Type 1} → statement M
 coefficient-at-spec =

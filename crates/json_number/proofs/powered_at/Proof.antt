@@ -17,6 +17,7 @@ enum-known-exponent c = search needs
 value-of-requires : tie.Need-value-of-requires
 value-of-requires c κs = (
   omega arith,
+  omega arith,
   exponent-bound (exponentAt (now (c .before .before .before .before .before .args .s)) (c .before .before .before .before .before .args .at)) (c .before .before .before .exponent-at .ensures) (c .before .exponent .given .1),
 )
 
@@ -27,10 +28,10 @@ stopped-requires : tie.Need-stopped-requires
 stopped-requires c κs = search needs
 
 returns : tie.Need-returns
-returns c = exponent-stands _ _ _ (omega arith) _ (c .before .before .before .before .exponent-at .ensures) (c .before .before .exponent .given .1) (c .value-of .ensures)
+returns c = exponent-stands _ _ _ _ (omega arith) (omega arith) _ (c .before .before .before .before .exponent-at .ensures) (c .before .before .exponent .given .1) (c .value-of .ensures)
 
 returns-2 : tie.Need-returns-2
-returns-2 c = c .stopped .ensures ∙ exponent-stops _ _ _ _ (c .before .before .before .before .exponent-at .ensures) (c .before .before .exponent2 .given .1)
+returns-2 c = c .stopped .ensures ∙ exponent-stops _ _ _ _ _ (c .before .before .before .before .exponent-at .ensures) (c .before .before .exponent2 .given .1)
 
 pub powered-at-spec : {M : Type 1} → statement M
 powered-at-spec =

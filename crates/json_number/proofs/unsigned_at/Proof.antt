@@ -2,7 +2,7 @@
 use mathlib.Core.Path.{_∙_}
 use borrow.Author.Needs.{needs}
 use denote.Ref.{now}
-use Rattle.json_number.proofs.Places.{fraction-room}
+use Rattle.json_number.proofs.Places.{counts-room}
 use Rattle.json_number.proofs.Parts.{coefficient-stands, coefficient-stops}
 use Rattle.json_number.proofs.unsigned_at.Statement.{statement}
 use Rattle.json_number.proofs.unsigned_at.Tie as tie
@@ -14,7 +14,7 @@ enum-known-digits : tie.Need-enum-known-digits
 enum-known-digits c = search needs
 
 powered-at-requires : tie.Need-powered-at-requires
-powered-at-requires c κs = fraction-room (now (c .before .before .before .before .before .args .s)) _ (c .before .before .before .coefficient-at .ensures) (c .before .digits .given .1)
+powered-at-requires c κs = counts-room (now (c .before .before .before .before .before .args .s)) _ (c .before .before .before .coefficient-at .ensures) (c .before .digits .given .1)
 
 enum-known-digits-2 : tie.Need-enum-known-digits-2
 enum-known-digits-2 c = search needs

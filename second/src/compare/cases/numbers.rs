@@ -1,16 +1,22 @@
-//! Numbers: the grammar, the limits, integers, signs, equality by value.
+//! Numbers: the grammar, the limits, integers, signs, equality by value, and
+//! all of these with zeros that the value doesn't need.
 
 use super::{joined, replaced, Cases, ODD_BYTES};
 use crate::compare::case::{EQUAL_NUMBERS, INTEGER, LONGEST, NUMBER, SIGN};
+use crate::compare::padded::{padded, padded_forms, SIGNIFICANDS, ZEROS};
+use crate::compare::random::Random;
 
 pub(super) fn add(cases: &mut Cases) {
     add_short_strings(cases);
     add_each_byte_after_each_front(cases);
     add_samples(cases);
     add_limits(cases);
+    add_padded(cases);
+    add_mostly_zeros(cases);
     add_wrapping_numbers(cases);
     add_integers(cases);
     add_equality(cases);
+    add_padded_equality(cases);
     add_random_equality(cases);
     add_long_runs(cases);
     add_longest_runs(cases);
@@ -60,7 +66,16 @@ fn add_each_byte_after_each_front(cases: &mut Cases) {
 
 /// Each sample read from each place, cut at each length, with odd bytes.
 fn add_samples(cases: &mut Cases) {
-    for sample in ["-12.50E+3", "999999999999999", "0.000000000000001", "-0", "1e-15", "120e-1"] {
+    let samples = [
+        "-12.50E+3",
+        "999999999999999",
+        "0.000000000000001",
+        "-0",
+        "1e-15",
+        "120e-1",
+        "8.0000000000000000",
+    ];
+    for sample in samples {
         let sample = sample.as_bytes();
         for at in 0..=sample.len() + 2 {
             for op in [NUMBER, INTEGER, SIGN] {
@@ -106,15 +121,43 @@ fn add_limits(cases: &mut Cases) {
 }
 
 /// c times 10 to the p, written with a point before its last digits.
-fn add_pointed(cases: &mut Cases, c: &str, p: i32) {
+fn add_pointed(cases: &mut Cases, c: &str, p: i64) {
     for places in [1, 5, 15, 16] {
-        let padded = format!("{c:0>width$}", width = places + 1);
-        let (whole, fraction) = padded.split_at(padded.len() - places);
-        let exponent = p + places as i32;
-        cases.one(NUMBER, 0, format!("{whole}.{fraction}E{exponent:+}").as_bytes());
-        cases.one(INTEGER, 0, format!("-{whole}.{fraction}e{exponent}").as_bytes());
+        let text = padded(c, p, 0, places);
+        cases.one(NUMBER, 0, text.as_bytes());
+        cases.one(INTEGER, 0, format!("-{text}").as_bytes());
     }
 }
+
+/// Values on both sides of each limit, each in many spellings.
+fn add_padded(cases: &mut Cases) {
+    for digits in SIGNIFICANDS {
+        for p in [-17, -16, -15, -14, -2, -1, 0, 1, 2, 14, 15, 16, 17] {
+            for form in padded_forms(digits, p) {
+                let sign = cases.random.pick(&["", "-"]);
+                cases.number(&format!("{sign}{form}"));
+            }
+        }
+    }
+    for zero in ZEROS {
+        cases.number(zero);
+        cases.number(&format!("-{zero}"));
+    }
+}
+
+/// Digits of which few aren't zeros, with the point among them or before them.
+fn add_mostly_zeros(cases: &mut Cases) {
+    for _ in 0..1500 {
+        let random = &mut cases.random;
+        let more: String = (0..random.below(30)).map(|_| random.pick(&MOSTLY_ZEROS)).collect();
+        let p = random.below(51) as i64 - 35;
+        let form = padded(&format!("7{more}"), p, 0, random.below(40));
+        let sign = random.pick(&["", "-"]);
+        cases.number(&format!("{sign}{form}"));
+    }
+}
+
+const MOSTLY_ZEROS: [char; 8] = ['0', '0', '0', '0', '0', '0', '0', '1'];
 
 /// Numbers that come back as small ones when they wrap in 32, 64 or 128 bits.
 fn add_wrapping_numbers(cases: &mut Cases) {
@@ -182,6 +225,7 @@ fn add_equality(cases: &mut Cases) {
         "0e15",
         "-0e-15",
         "0e16",
+        "0e99",
         "1",
         "1.0",
         "1.000000000000000",
@@ -201,6 +245,9 @@ fn add_equality(cases: &mut Cases) {
         "1e16",
         "10e15",
         "0.1e16",
+        "1000000000000000",
+        "10000000000000000",
+        "1000000000000001",
         "999999999999999",
         "99999999999999.9e1",
         "999999999999998",
@@ -211,6 +258,7 @@ fn add_equality(cases: &mut Cases) {
         "1e-14",
         "0.000000000000001",
         "0.0000000000000010",
+        "0.00000000000000010",
         "1e-16",
         "",
         "-",
@@ -226,6 +274,7 @@ fn add_equality(cases: &mut Cases) {
         "8e0",
         "0.8e1",
         "80e-1",
+        "8.0000000000000000",
     ];
     for a in numbers {
         for b in numbers {
@@ -238,17 +287,59 @@ fn add_equality(cases: &mut Cases) {
     }
 }
 
+/// Each value in two spellings, and beside others of which only the last digit
+/// or the power differs.
+fn add_padded_equality(cases: &mut Cases) {
+    for digits in SIGNIFICANDS {
+        let near = with_other_last_digit(digits);
+        for p in [-16, -15, -14, -1, 0, 1, 13, 14, 15, 16] {
+            let forms = padded_forms(digits, p);
+            for others in [&forms, &padded_forms(&near, p), &padded_forms(digits, p + 1)] {
+                add_beside_some(cases, &forms, others);
+            }
+        }
+    }
+    for a in ZEROS {
+        for b in ZEROS {
+            let (sign, other_sign) = random_signs(&mut cases.random);
+            cases.equal_numbers(&format!("{sign}{a}"), &format!("{other_sign}{b}"));
+        }
+        cases.equal_numbers(a, "1e-15");
+        cases.equal_numbers("-1e-15", a);
+    }
+}
+
+/// No zero takes the place of the last digit.
+fn with_other_last_digit(digits: &str) -> String {
+    let (front, last) = digits.split_at(digits.len() - 1);
+    format!("{front}{}", if last == "9" { "8" } else { "9" })
+}
+
+/// Each of the forms beside one of the others, mostly with the same sign.
+fn add_beside_some(cases: &mut Cases, forms: &[String], others: &[String]) {
+    for form in forms {
+        let other = &others[cases.random.below(others.len())];
+        let (sign, other_sign) = random_signs(&mut cases.random);
+        cases.equal_numbers(&format!("{sign}{form}"), &format!("{other_sign}{other}"));
+    }
+}
+
+/// Two signs that are mostly the same.
+fn random_signs(random: &mut Random) -> (&'static str, &'static str) {
+    let sign = random.pick(&["", "-"]);
+    let other_sign = if random.below(8) == 0 { "-" } else { sign };
+    (sign, other_sign)
+}
+
 /// A number and the same value written with more zeros, or nearly the same.
 fn add_random_equality(cases: &mut Cases) {
     for _ in 0..1500 {
         let c = cases.random.below(100_000);
         let p = cases.random.below(31) as i32 - 15;
-        let more = cases.random.below(12);
+        let more = cases.random.below(25);
         let near = c + cases.random.below(3) / 2;
         let zeros = "0".repeat(more);
-        let signs = ["", "-"];
-        let sign = cases.random.pick(&signs);
-        let other_sign = if cases.random.below(8) == 0 { "-" } else { sign };
+        let (sign, other_sign) = random_signs(&mut cases.random);
         let a = format!("{sign}{c}e{p}");
         cases.equal_numbers(&a, &format!("{other_sign}{near}{zeros}e{}", p - more as i32));
         cases.equal_numbers(&format!("{other_sign}{near}.{zeros}0E{p}"), &a);
@@ -267,6 +358,15 @@ fn add_long_runs(cases: &mut Cases) {
     let texts = [
         format!("1{zeros}"),
         format!("1{zeros}e-100000"),
+        format!("1{zeros}e-99985"),
+        format!("-1{zeros}e-99984"),
+        format!("1{zeros}e-100015"),
+        format!("1{zeros}e-100016"),
+        format!("999999999999999{zeros}.{zeros}E-100000"),
+        format!("9999999999999999{zeros}.{zeros}E-100001"),
+        format!("1{zeros}1e-100000"),
+        format!("-8.{zeros}"),
+        format!("8.{zeros}1"),
         nines.clone(),
         format!("0.{nines}"),
         format!("1e{zeros}15"),
@@ -275,6 +375,7 @@ fn add_long_runs(cases: &mut Cases) {
         format!("1e{nines}"),
         format!("1e-{nines}"),
         format!("0e{nines}"),
+        format!("-0.{zeros}E-{nines}"),
         format!("0.{zeros}e"),
         format!("0.{zeros}e+x"),
         format!("0{zeros}"),
@@ -290,15 +391,27 @@ fn add_long_runs(cases: &mut Cases) {
 
 /// Runs as long as a slice can be.
 fn add_longest_runs(cases: &mut Cases) {
-    let zeros = "0".repeat(LONGEST - 12);
+    let count = LONGEST - 12;
+    let zeros = "0".repeat(count);
     let texts = [
-        format!("0.{zeros}3e{}", LONGEST - 11),
-        format!("0.{zeros}3e{}", LONGEST + 5),
+        format!("0.{zeros}3e{}", count + 1),
+        format!("0.{zeros}3e{}", count + 17),
         format!("1{zeros}"),
         format!("-3e{zeros}12"),
         format!("3e-1{zeros}"),
+        format!("8.{zeros}"),
+        format!("-1{zeros}e-{}", count - 15),
+        format!("1{zeros}e-{}", count - 16),
+        format!("1.{zeros}1"),
     ];
     for text in texts {
         cases.one(NUMBER, 0, text.as_bytes());
     }
+    cases.one(INTEGER, 0, format!("7{zeros}e-{count}").as_bytes());
+    cases.one(INTEGER, 0, format!("7{zeros}e-{}", count + 1).as_bytes());
+    cases.one(SIGN, 0, format!("-0.{zeros}e99").as_bytes());
+    cases.one(SIGN, 0, format!("-0e{}", "9".repeat(count)).as_bytes());
+    cases.equal_numbers(&format!("8.{zeros}"), "8");
+    cases.equal_numbers("9", &format!("8.{zeros}"));
+    cases.equal_numbers(&format!("25{zeros}e-{count}"), &format!("25.{zeros}"));
 }

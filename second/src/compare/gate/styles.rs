@@ -8,9 +8,6 @@ use crate::compare::random::Random;
 use crate::fields::{fields_of, Type};
 use crate::json::decoded_codes;
 
-/// A whole number with more digits may have too many of them with one more.
-const MOST_DIGITS: usize = 12;
-
 /// The set with each table written in another way, by which no mark changes.
 pub(super) fn restyled(set: &SetDraft, random: &mut Random) -> SetDraft {
     let mut styled = set.clone();
@@ -111,16 +108,30 @@ fn rewritten(string: &[u8], character: impl FnMut(u32) -> Vec<u8>) -> Vec<u8> {
 pub(super) fn renumbered(value: &[u8], random: &mut Random) -> Vec<u8> {
     let digits = value.strip_prefix(b"-").unwrap_or(value);
     let is_plain = !digits.is_empty() && digits.iter().all(u8::is_ascii_digit);
-    if !is_plain || digits.len() > MOST_DIGITS {
+    if !is_plain {
         return value.to_vec();
     }
     let more: &[u8] = match digits {
         // Another digit behind a zero is no JSON.
-        b"0" => random.pick(&[&b".0"[..], b"e0", b"E+5", b"e-15", b".000", b""]),
-        _ => random.pick(&[&b".0"[..], b"e0", b"0e-1", b"0E-1", b".00E+0", b""]),
+        b"0" => random.pick(&MORE_BEHIND_ZERO),
+        _ => random.pick(&MORE_BEHIND_DIGITS),
     };
     [value, more].concat()
 }
+
+const MORE_BEHIND_ZERO: [&[u8]; 8] =
+    [b"", b".0", b"e0", b"E+5", b"e-15", b".000", b"e99", b".0000000000000000E-99"];
+
+const MORE_BEHIND_DIGITS: [&[u8]; 8] = [
+    b"",
+    b".0",
+    b"e0",
+    b"0e-1",
+    b"0E-1",
+    b".00E+0",
+    b".0000000000000000",
+    b"000000000000000.00000000000000000e-15",
+];
 
 #[cfg(test)]
 mod tests {
@@ -142,14 +153,14 @@ mod tests {
     #[test]
     fn numbers_keep_their_value() {
         let mut random = Random::new(4);
-        for plain in ["0", "-0", "7", "-12"] {
-            for _ in 0..20 {
+        for plain in ["0", "-0", "7", "-12", "999999999999999"] {
+            for _ in 0..40 {
                 let form = String::from_utf8(renumbered(plain.as_bytes(), &mut random)).unwrap();
                 let value: f64 = form.parse().unwrap();
                 assert_eq!(value, plain.parse::<f64>().unwrap(), "{form}");
             }
         }
-        for other in ["null", "1.5", "\"1\"", "1234567890123"] {
+        for other in ["null", "1.5", "\"1\""] {
             assert_eq!(renumbered(other.as_bytes(), &mut random), other.as_bytes());
         }
     }

@@ -149,7 +149,7 @@ fn add_moved_borders(cases: &mut Cases, table: usize, fields: &[&str]) {
     }
 }
 
-const ORDINALS: [Option<&[u8]>; 18] = [
+const ORDINALS: [Option<&[u8]>; 28] = [
     None,
     Some(b"null"),
     Some(b"0"),
@@ -168,6 +168,16 @@ const ORDINALS: [Option<&[u8]>; 18] = [
     Some(b"999999999999999"),
     Some(b"-999999999999999"),
     Some(b"99999999999999e1"),
+    Some(b"0e99"),
+    Some(b"-0.0000000000000000E-99"),
+    Some(b"1.0000000000000000"),
+    Some(b"10000000000000000e-16"),
+    Some(b"0.000000000000000010E+17"),
+    Some(b"-1.00000000000000000000"),
+    Some(b"10.0000000000000000"),
+    Some(b"999999999999999.000"),
+    Some(b"999999999999998.000"),
+    Some(b"999999999999990"),
 ];
 
 const DATES: [Option<&[u8]>; 14] = [

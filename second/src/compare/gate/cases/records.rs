@@ -3,6 +3,7 @@
 
 use super::Cases;
 use crate::compare::gate::set_draft::{places, SetDraft};
+use crate::compare::padded::{padded_forms, ZEROS};
 
 /// What a field may hold; nothing where it is absent.
 type Choices = &'static [Option<&'static [u8]>];
@@ -11,6 +12,7 @@ pub(super) fn add(cases: &mut Cases) {
     add_mixes(cases, 1, &[("ContractorIDCodeTypeID", CODE_TYPES), ("ContractorIDCode", STRINGS)]);
     add_mixes(cases, 1, &[("EVMSAccepted", BOOLEANS), ("EVMSAcceptanceDate", DATES)]);
     add_hours(cases);
+    add_padded_hours(cases);
     add_mixes(cases, 8, &[("WorkHours", HOURS)]);
     add_mixes(cases, 9, &[("TaskTypeID", TASK_TYPES), ("TaskPlanningLevelID", LEVELS)]);
     add_mixes(
@@ -112,6 +114,32 @@ fn add_two_days(
     cases.judge_set(&set);
 }
 
+/// Hours above, below and at zero, and such as no file has, with many zeros.
+fn add_padded_hours(cases: &mut Cases) {
+    for (digits, p) in [("8", 0), ("1", -15), ("999999999999999", 15), ("1", -16), ("1", 16)] {
+        for form in padded_forms(digits, p) {
+            add_hours_of_each_sign(cases, &form);
+        }
+    }
+    for zero in ZEROS {
+        add_hours_of_each_sign(cases, zero);
+    }
+}
+
+/// As the only hours of a workshift, and as those of an exception.
+fn add_hours_of_each_sign(cases: &mut Cases, size: &str) {
+    let shifts = few_records(cases, 7);
+    let exceptions = few_records(cases, 8);
+    for sign in ["", "-"] {
+        let hours = format!("{sign}{size}");
+        let hours = Some(hours.as_bytes());
+        let day = cases.random.pick(&DAYS);
+        add_two_days(cases, &shifts, (day, hours), None);
+        let at = cases.random.below(3);
+        cases.judge_set(&exceptions.with_value(8, at, "WorkHours", hours));
+    }
+}
+
 const STRINGS: Choices = &[None, Some(b"null"), Some(b"\"\""), Some(b"\"x\"")];
 const BOOLEANS: Choices = &[None, Some(b"null"), Some(b"true"), Some(b"false")];
 const DATES: Choices = &[None, Some(b"null"), Some(b"\"2020-01-01\"")];
@@ -143,6 +171,12 @@ const HOURS: Choices = &[
     Some(b"-999999999999999e15"),
     Some(b"-0.50"),
     Some(b"10e-1"),
+    Some(b"8.0000000000000000"),
+    Some(b"-8.0000000000000000"),
+    Some(b"1000000000000000"),
+    Some(b"-1000000000000000"),
+    Some(b"0e99"),
+    Some(b"-0.0000000000000000e-99"),
 ];
 
 const TASK_TYPES: Choices = &[

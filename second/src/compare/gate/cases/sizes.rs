@@ -14,14 +14,15 @@ pub(super) fn add(cases: &mut Cases) {
     add_long_bundles(cases);
 }
 
-/// The accepted set with one file prolonged by spaces, or by a comment, until
-/// the bundle has that many bytes.
+/// The accepted set with one file prolonged by spaces, by a comment or by zeros
+/// behind some hours, until the bundle has that many bytes.
 fn of_length(cases: &Cases, number: usize, length: usize) -> Vec<u8> {
     let short = cases.base.present(number);
     let missing = length - cases.base.bundle().len();
     let prolonged = match number {
         0 => [&short[..], &vec![b'0'; missing]].concat(),
         2 => with_long_comment(&short, missing),
+        7 => with_padded_hours(cases, missing),
         _ => [&vec![b' '; missing - 1], &short[..], b"\n"].concat(),
     };
     cases.base.with_bytes(number, &prolonged).bundle()
@@ -35,8 +36,16 @@ fn with_long_comment(short: &[u8], length: usize) -> Vec<u8> {
     [open, name, &comment, b"\"}"].concat()
 }
 
+/// File 7 with so many zeros behind the hours that its first record ends in.
+fn with_padded_hours(cases: &Cases, zeros: usize) -> Vec<u8> {
+    let name = "FridayWorkHours";
+    let hours = cases.base.records(7)[0].value(name).expect("the sample gives these hours");
+    let padded = [hours, &vec![b'0'; zeros]].concat();
+    cases.base.with_value(7, 0, name, Some(&padded)).present(7)
+}
+
 fn add_judged(cases: &mut Cases) {
-    for number in [0, 2, 9, 19] {
+    for number in [0, 2, 7, 9, 19] {
         let bundle = of_length(cases, number, LARGEST_BUNDLE);
         cases.judge(bundle);
         let bundle = of_length(cases, number, LARGEST_BUNDLE + 1);
@@ -113,8 +122,17 @@ fn add_long_bundles(cases: &mut Cases) {
     let left = LARGEST_BUNDLE - file_part(&bundle, 2).len();
     add_made(cases, &bundle, 2, None, left);
     add_made(cases, &bundle, 2, None, left - 1);
+    add_long_number(cases);
     let one_over = Arc::new(of_length(cases, 2, LARGEST_BUNDLE + 1));
     add_made(cases, &one_over, 20, Some(b"{}".to_vec()), 10);
+}
+
+/// A number that makes the bundle as long as can be comes with a change.
+fn add_long_number(cases: &mut Cases) {
+    let bundle = Arc::new(cases.base.bundle());
+    let new = with_padded_hours(cases, LARGEST_BUNDLE - bundle.len());
+    let board = random_board(&mut cases.random);
+    cases.try_change(&bundle, change(board, 7, Some(new)));
 }
 
 fn add_made(cases: &mut Cases, bundle: &Bytes, number: usize, new: Option<Vec<u8>>, output: usize) {
@@ -133,7 +151,7 @@ mod tests {
     fn the_accepted_set_stays_accepted_at_full_length() {
         let base = SetDraft::accepted();
         let cases = Cases { list: Vec::new(), random: Random::new(1), base };
-        for number in [2, 9, 19] {
+        for number in [2, 7, 9, 19] {
             let bundle = of_length(&cases, number, LARGEST_BUNDLE);
             assert_eq!(bundle.len(), LARGEST_BUNDLE);
             assert!(judge(&bundle).board.is_accepted(), "file {number}");

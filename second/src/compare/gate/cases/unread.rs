@@ -92,8 +92,12 @@ fn spoilt_values(field: &Field) -> &'static [&'static [u8]] {
     match field.kind {
         Type::Boolean => &[b"1", b"\"true\"", b"[]"],
         Type::Date => &[b"\"2019-02-29\"", b"\"\"", b"20190228", b"\"2020-1-01\""],
-        Type::Decimal => &[b"1e16", b"\"1\"", b"1.", b"1000000000000000", b"1e-16"],
-        Type::Integer => &[b"0.5", b"1e15", b"\"1\"", b"true"],
+        Type::Decimal => {
+            &[b"1e16", b"\"1\"", b"1.", b"1000000000000001", b"10e15", b"1e-16", b"0.10e-15"]
+        }
+        Type::Integer => {
+            &[b"0.5", b"1e15", b"\"1\"", b"true", b"1000000000000000", b"10000000000000000e-17"]
+        }
         Type::String => &[b"\" x\"", b"\"a  b\"", b"1", b"\"\\ud800\"", b"\"a\\tb\""],
         Type::StringID => &[b"\"\xC3\xA9\"", b"\"x \"", b"{}", b"\"\\u007f\"", b"\"\xFF\""],
         Type::Text => &[b"\"\\u0000\"", b"\"a\nb\"", b"false", b"\"\\udc00\""],
@@ -136,4 +140,24 @@ fn with_odd_file(cases: &mut Cases, set: &SetDraft, number: usize) -> SetDraft {
         FileDraft::Bytes([b"[{", &quoted("Unknown")[..]].concat()),
     ];
     set.with_file(number, files[cases.random.below(files.len())].clone())
+}
+
+#[cfg(test)]
+mod tests {
+    use super::*;
+    use crate::gate::judge;
+
+    #[test]
+    fn no_field_takes_its_spoilt_values() {
+        for field in &FIELDS {
+            let table = field.table;
+            let base = SetDraft::accepted().only(&[table]);
+            for value in spoilt_values(field) {
+                let set = base.with_value(table, 0, field.name, Some(value));
+                let shown = String::from_utf8_lossy(value);
+                let kind = judge(&set.bundle()).board.marks[table].kind;
+                assert!((10..=18).contains(&kind), "{} {shown}", field.name);
+            }
+        }
+    }
 }

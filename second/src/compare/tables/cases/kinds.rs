@@ -34,7 +34,7 @@ fn add_value_in_field(cases: &mut Cases, field: &Field, value: &[u8]) {
 }
 
 /// Values that give kinds 10, 11 and 15 to 19 in some field.
-const SPOILT: [&[u8]; 32] = [
+const SPOILT: [&[u8]; 34] = [
     b"\"A\xFF\"",
     b"\"\xC3\"",
     b"\"\xED\xA0\x80\"",
@@ -62,6 +62,8 @@ const SPOILT: [&[u8]; 32] = [
     b"\"2016-01-31\"",
     b"1e16",
     b"1e-16",
+    b"10e15",
+    b"1000000000000001",
     b"1000000000000000",
     b"999999999999999e1",
     b"null",

@@ -17,6 +17,7 @@ pub(super) fn add(cases: &mut Cases) {
     }
     add_after_the_most_records(cases);
     add_most_bytes(cases);
+    add_most_zeros(cases);
     add_deep(cases);
     add_long_strings(cases);
     add_long_numbers(cases);
@@ -92,6 +93,23 @@ fn add_most_bytes(cases: &mut Cases) {
     let long = b"a".repeat(LONGEST - front.len() - 2);
     cases.file(2, &joined(&[front, &long, b"\"}"]));
     cases.file(2, &joined(&[front, &long, b"\"."]));
+}
+
+/// A number that nearly fills the file with zeros, after its point or before.
+fn add_most_zeros(cases: &mut Cases) {
+    let front = b"[{\"CalendarID\":\"C\",\"SundayWorkHours\":8";
+    let count = LONGEST - front.len() - b"e-1048576}]".len();
+    let zeros = "0".repeat(count);
+    let numbers = [
+        format!(".{zeros}"),
+        format!(".{zeros}1"),
+        format!(".{zeros}e15"),
+        format!(".{zeros}e16"),
+        format!("{zeros}e-{count}"),
+    ];
+    for number in numbers {
+        cases.file(7, &joined(&[front, number.as_bytes(), b"}]"]));
+    }
 }
 
 /// Arrays and objects are judged at their opening byte, however deep they go.
@@ -171,11 +189,19 @@ fn long_numbers(digits: usize) -> Vec<String> {
         format!("0.{zeros}1e{}", digits + 1),
         format!("1e-{zeros}5"),
         format!("1e{nines}"),
+        format!("8.{zeros}"),
+        format!("7{zeros}e-{digits}"),
     ];
     if digits < LONGER {
         numbers.extend([
             format!("1{zeros}"),
-            format!("-1{zeros}e-{digits}"),
+            format!("-1{zeros}e-{}", digits - 15),
+            format!("1{zeros}e-{}", digits - 16),
+            format!("1{zeros}e-{}", digits + 15),
+            format!("-1{zeros}e-{}", digits + 16),
+            format!("999999999999999{zeros}.{zeros}e-{digits}"),
+            format!("1000000000000001{zeros}.{zeros}e-{}", digits + 1),
+            format!("1.{zeros}1"),
             format!("0.{zeros}1e{}", digits + 16),
             format!("0.{zeros}1e{}", digits + 17),
             format!("0.{zeros}e{digits}"),

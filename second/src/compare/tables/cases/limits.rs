@@ -2,9 +2,11 @@
 
 use super::draft::{quoted, Draft};
 use super::{joined, Cases};
+use crate::compare::padded::{padded, padded_forms, SIGNIFICANDS, ZEROS};
 
 pub(super) fn add(cases: &mut Cases) {
     add_number_limits(cases);
+    add_padded_numbers(cases);
     add_wrapping_numbers(cases);
     add_dates(cases);
     add_wrong_dates(cases);
@@ -84,12 +86,25 @@ fn add_number_limits(cases: &mut Cases) {
 }
 
 /// c times 10 to the p, written with a point before its last digits.
-fn add_pointed(cases: &mut Cases, c: &str, p: i32) {
+fn add_pointed(cases: &mut Cases, c: &str, p: i64) {
     for places in [1, 15, 16] {
-        let padded = format!("{c:0>width$}", width = places + 1);
-        let (whole, fraction) = padded.split_at(padded.len() - places);
-        let exponent = p + places as i32;
-        cases.number(&format!("{whole}.{fraction}E{exponent:+}"));
+        cases.number(&padded(c, p, 0, places));
+    }
+}
+
+/// Values on both sides of each limit, each in many spellings.
+fn add_padded_numbers(cases: &mut Cases) {
+    for digits in SIGNIFICANDS {
+        for p in [-16, -15, -1, 0, 14, 15, 16] {
+            for form in padded_forms(digits, p) {
+                let sign = cases.random.pick(&["", "-"]);
+                cases.number(&format!("{sign}{form}"));
+            }
+        }
+    }
+    for zero in ZEROS {
+        cases.number(zero);
+        cases.number(&format!("-{zero}"));
     }
 }
 

@@ -12,7 +12,7 @@ const DATES: [&[u8]; 5] = [
     b"\"\\u00320\\u00320\\u002d02-29\"",
 ];
 
-const DECIMALS: [&[u8]; 12] = [
+const DECIMALS: [&[u8]; 18] = [
     b"0",
     b"8",
     b"-0",
@@ -25,9 +25,15 @@ const DECIMALS: [&[u8]; 12] = [
     b"12.50e+3",
     b"-999999999999999e15",
     b"0E-15",
+    b"8.0000000000000000",
+    b"1000000000000000",
+    b"0e99",
+    b"-0.0000000000000010",
+    b"9999999999999990E-16",
+    b"-0.000e-99999999999999999999",
 ];
 
-const INTEGERS: [&[u8]; 10] = [
+const INTEGERS: [&[u8]; 14] = [
     b"1",
     b"0",
     b"-1",
@@ -38,6 +44,10 @@ const INTEGERS: [&[u8]; 10] = [
     b"0e15",
     b"-0.000",
     b"1200E-2",
+    b"1.0000000000000000",
+    b"20000000000000000e-16",
+    b"0E+99",
+    b"-999999999999999.00",
 ];
 
 const IDS: [&[u8]; 8] = [
@@ -99,7 +109,7 @@ pub(super) fn may_be_empty(kind: Type) -> bool {
 }
 
 /// Every JSON kind, good and bad, and what is no JSON.
-pub(super) const VALUES: [&[u8]; 102] = [
+pub(super) const VALUES: [&[u8]; 114] = [
     // Strings: read whole, of which some are good for some type.
     b"\"\"",
     b"\"A\"",
@@ -159,12 +169,24 @@ pub(super) const VALUES: [&[u8]; 102] = [
     b"1e-15",
     b"1e-16",
     b"0e16",
+    b"0e99",
+    b"-0.000e-99",
     b"0.5e-15",
+    b"0.50e-14",
     b"0.5e16",
     b"999999999999999",
     b"-999999999999999",
     b"1000000000000000",
+    b"10000000000000000",
+    b"1000000000000001",
+    b"1000000000000000e-16",
+    b"10000000000000010e-16",
     b"100000000000000e1",
+    b"10e14",
+    b"10e15",
+    b"8.0000000000000000",
+    b"0.0000000000000010",
+    b"0.00000000000000010",
     b"1e99999999999999999999",
     b"1E+2",
     // Numbers that end early, or are none.
@@ -210,3 +232,23 @@ pub(super) const VALUES: [&[u8]; 102] = [
     b"\xEF\xBB\xBF1",
     b"\x00",
 ];
+
+#[cfg(test)]
+mod tests {
+    use super::*;
+    use crate::compare::draft::{text, Draft};
+    use crate::fields::FIELDS;
+    use crate::table::read_file;
+
+    #[test]
+    fn every_field_takes_the_good_values_of_its_type() {
+        for field in &FIELDS {
+            for value in good_values(field.kind) {
+                let record = Draft::least(field.table, 0).with_value(field.name, value);
+                let reading = read_file(field.table, Some(&text(field.table, &[record])));
+                let shown = String::from_utf8_lossy(value);
+                assert!(reading.is_ok(), "{} {shown}", field.name);
+            }
+        }
+    }
+}

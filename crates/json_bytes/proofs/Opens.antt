@@ -1,0 +1,8 @@
+-- One name opens every definition of this crate, for tests that compute: a definition that is
+-- added here asks nothing of those above.
+use mathlib.Core.Bool.{Bool, true}
+use Rattle.json_bytes.specs.Reads.{within, leading, isSpace, spacesEnd, wordAt, literalAt}
+
+unfoldable pub open-bytes : Bool
+unfolding within leading isSpace spacesEnd wordAt literalAt
+open-bytes = true

@@ -1,0 +1,9 @@
+-- One name opens every definition of this crate and of those below it, for tests that compute: a definition that is
+-- added here asks nothing of those above.
+use mathlib.Core.Bool.{Bool, true}
+use Rattle.json_chars.proofs.Opens.{open-chars}
+use Rattle.json_date.specs.Date.{isLeap, monthDays, isDay, digitsAt, twoAt, hasForm, yearOf, monthOf, dayOf, dateOf}
+
+unfoldable pub open-dates : Bool
+unfolding open-chars isLeap monthDays isDay digitsAt twoAt hasForm yearOf monthOf dayOf dateOf
+open-dates = true

@@ -1,0 +1,9 @@
+-- One name opens every definition of this crate and of those below it, for tests that compute: a definition that is
+-- added here asks nothing of those above.
+use mathlib.Core.Bool.{Bool, true}
+use Rattle.rule_cells.proofs.Opens.{open-cells}
+use Rattle.rule_hours.specs.Hours.{fieldFrom, firstField, anyField, isBelow, isAbove, isNull, passes, breaks, noneBelow, someAbove, together}
+
+unfoldable pub open-hours : Bool
+unfolding open-cells fieldFrom firstField anyField isBelow isAbove isNull passes breaks noneBelow someAbove together
+open-hours = true

@@ -1,0 +1,10 @@
+-- One name opens every definition of this crate and of those below it, for tests that compute: a definition that is
+-- added here asks nothing of those above.
+use mathlib.Core.Bool.{Bool, true}
+use Rattle.table_record.proofs.Opens.{open-records}
+use Rattle.table_file.specs.File.{fileType, demanded, omitted, typeFile, fileOf}
+use Rattle.table_file.specs.Table.{endOfFile, singleRead, singleOf, singleAt, elementAt, elementsFrom, elementsOf, arrayAt, tableOf}
+
+unfoldable pub open-files : Bool
+unfolding open-records fileType demanded omitted typeFile fileOf endOfFile singleRead singleOf singleAt elementAt elementsFrom elementsOf arrayAt tableOf
+open-files = true
