@@ -229,10 +229,9 @@ pub fn first_breach(characters: &[Character], kind: TextKind) -> Option<Breach> 
 
 fn lowest_broken_rule(characters: &[Character], index: usize, kind: TextKind) -> Option<u32> {
     let code = characters[index].code;
-    let normalized = kind != TextKind::Text;
     if is_barred_control(code) {
         Some(BARRED_CONTROL)
-    } else if normalized && is_wrong_whitespace(characters, index) {
+    } else if is_wrong_whitespace(characters, index, kind) {
         Some(WHITESPACE)
     } else if kind == TextKind::StringID && !(0x20..=0x7E).contains(&code) {
         Some(OUTSIDE_ID_SET)
@@ -249,13 +248,41 @@ fn is_barred_control(code: u32) -> bool {
 }
 
 /// Whitespace is only allowed as single inner spaces.
-fn is_wrong_whitespace(characters: &[Character], index: usize) -> bool {
-    let is_space = |i: usize| characters[i].code == 0x20;
-    match characters[index].code {
-        0x09 | 0x0A | 0x0D => true,
-        0x20 => index == 0 || index + 1 == characters.len() || is_space(index - 1),
-        _ => false,
+fn is_wrong_whitespace(characters: &[Character], index: usize, kind: TextKind) -> bool {
+    if !is_whitespace(characters[index].code, kind) {
+        return false;
     }
+    let is_space = |i: usize| characters[i].code == SPACE;
+    !is_space(index) || index == 0 || index + 1 == characters.len() || is_space(index - 1)
+}
+
+const SPACE: u32 = 0x20;
+
+/// What counts as whitespace is for the kind to say. Text has no rule about it.
+fn is_whitespace(code: u32, kind: TextKind) -> bool {
+    match kind {
+        TextKind::Text => false,
+        TextKind::String => is_unicode_white_space(code),
+        TextKind::StringID => matches!(code, 0x09 | 0x0A | 0x0D | SPACE),
+    }
+}
+
+/// Unicode's White_Space list (order 2).
+fn is_unicode_white_space(code: u32) -> bool {
+    matches!(
+        code,
+        0x0009..=0x000D
+            | 0x0020
+            | 0x0085
+            | 0x00A0
+            | 0x1680
+            | 0x2000..=0x200A
+            | 0x2028
+            | 0x2029
+            | 0x202F
+            | 0x205F
+            | 0x3000
+    )
 }
 
 // ----------------------------------------------------------------- dates
@@ -557,6 +584,103 @@ mod tests {
         assert_eq!(breach(br#""\uD800""#, Text), Some((4, 1)));
         assert_eq!(breach(br#""\uD800\u0000""#, Text), Some((4, 1)));
         assert_eq!(breach(br#""""#, StringID), None);
+    }
+
+    /// The standard library has the list of its own.
+    #[test]
+    fn white_space_is_the_list_of_unicode() {
+        let listed: Vec<char> = (0..=0x10FFFF)
+            .filter(|code| is_unicode_white_space(*code))
+            .filter_map(char::from_u32)
+            .collect();
+        let known: Vec<char> = ('\0'..=char::MAX).filter(|c| c.is_whitespace()).collect();
+        assert_eq!(listed, known);
+        assert_eq!(listed.len(), 25);
+        assert!(!(0xD800..=0xDFFF).any(is_unicode_white_space));
+    }
+
+    #[test]
+    fn each_kind_has_whitespace_of_its_own() {
+        for code in 0..=0x10FFFF {
+            assert!(!is_whitespace(code, TextKind::Text));
+            assert_eq!(is_whitespace(code, TextKind::String), is_unicode_white_space(code));
+            let of_four = [0x09, 0x0A, 0x0D, 0x20].contains(&code);
+            assert_eq!(is_whitespace(code, TextKind::StringID), of_four);
+        }
+    }
+
+    /// The rule that each kind breaks first: Text, String, StringID.
+    fn breaches(text: &[u8]) -> [Option<(u32, usize)>; 3] {
+        [TextKind::Text, TextKind::String, TextKind::StringID].map(|kind| breach(text, kind))
+    }
+
+    /// The character as itself where that can be, and as escapes.
+    fn writings(c: char) -> Vec<String> {
+        let units: Vec<u16> = c.encode_utf16(&mut [0; 2]).to_vec();
+        let mut writings = vec![
+            units.iter().map(|unit| format!("\\u{unit:04x}")).collect(),
+            units.iter().map(|unit| format!("\\u{unit:04X}")).collect(),
+        ];
+        writings.extend((c >= ' ').then(|| c.to_string()));
+        writings
+    }
+
+    /// What Text, String and StringID say of a white character that isn't the
+    /// space: two are barred, the four are whitespace, others are no ID's.
+    fn breaches_of_white(c: char) -> [Option<u32>; 3] {
+        match c {
+            '\u{0B}' | '\u{0C}' => [Some(1), Some(1), Some(1)],
+            '\t' | '\n' | '\r' => [None, Some(2), Some(2)],
+            _ => [None, Some(2), Some(3)],
+        }
+    }
+
+    #[test]
+    fn no_white_character_but_the_space_stands_anywhere_in_a_string() {
+        let ends = [("", ""), ("", "B"), ("A", "B"), ("A", ""), ("A ", "B"), ("A", " B")];
+        for c in ('\0'..=char::MAX).filter(|c| c.is_whitespace() && *c != ' ') {
+            for (written, (front, back)) in
+                writings(c).iter().flat_map(|written| ends.map(|ends| (written, ends)))
+            {
+                let place = 1 + front.len();
+                let expected = breaches_of_white(c).map(|rule| rule.map(|rule| (rule, place)));
+                let once = format!("\"{front}{written}{back}\"");
+                let twice = format!("\"{front}{written}{written}{back}\"");
+                assert_eq!(breaches(once.as_bytes()), expected, "{once}");
+                assert_eq!(breaches(twice.as_bytes()), expected, "{twice}");
+            }
+        }
+    }
+
+    #[test]
+    fn what_is_not_on_the_list_may_stand_anywhere_in_a_string() {
+        let beside = "\u{84}\u{86}\u{9F}\u{A1}\u{167F}\u{1681}\u{1FFF}\u{200B}\u{2027}\u{202A}\
+            \u{202E}\u{2030}\u{205E}\u{2060}\u{2FFF}\u{3001}";
+        let unseen = "\u{180E}\u{FEFF}";
+        let white_in_low_bits = "\u{120}\u{1A0}\u{2100}\u{A000}\u{12000}\u{13000}\u{1F0A0}";
+        for c in [beside, unseen, white_in_low_bits].concat().chars() {
+            for written in writings(c) {
+                for text in [format!("\"{written}\""), format!("\"{written}A {written}{written}\"")]
+                {
+                    assert_eq!(breaches(text.as_bytes()), [None, None, Some((3, 1))], "{text}");
+                }
+            }
+        }
+        assert_eq!(breaches(br#""\u0008\u000E\u001F""#), [Some((1, 1)); 3]);
+        assert_eq!(breaches(br#""!""#), [None; 3]);
+    }
+
+    #[test]
+    fn a_space_beside_another_white_one_is_as_right_as_alone() {
+        use TextKind::*;
+        // The space is single and inside; what follows it is wrong by itself.
+        assert_eq!(breach("\"A \u{A0}\"".as_bytes(), String), Some((2, 3)));
+        assert_eq!(breach("\"A\u{A0} \u{A0}B\"".as_bytes(), String), Some((2, 2)));
+        assert_eq!(breach("\" \u{A0}B\"".as_bytes(), String), Some((2, 1)));
+        assert_eq!(breach("\"A  \u{3000}B\"".as_bytes(), String), Some((2, 3)));
+        assert_eq!(breach("\"A\u{2028}B\u{7F}\"".as_bytes(), String), Some((2, 2)));
+        assert_eq!(breach("\"A\u{7F}\u{2028}B\"".as_bytes(), String), Some((1, 2)));
+        assert_eq!(breach("\"A\u{A0}\\uD800\"".as_bytes(), StringID), Some((3, 2)));
     }
 
     fn date(text: &str) -> Option<(u32, u32, u32)> {

@@ -1,3 +1,5 @@
 pub mod Opens
 pub mod Laws
 pub mod Bounds
+pub mod Spaces
+pub mod Cases

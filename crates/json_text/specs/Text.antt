@@ -1,10 +1,10 @@
 -- A string read whole, and the string rules of document 01: "Decoded first. U+0000–0008, 000B–000C, 000E–001F and 007F
 -- are barred, as are unpaired surrogate escapes. String and StringID: no whitespace but single inner spaces. StringID:
--- U+0020–007E only. Text: no whitespace rule."
+-- U+0020–007E only. Text: no whitespace rule." What counts as whitespace is document 02's, order 2.
 use Prim.Native.Nat.{ℕ, zero, suc, _+_}
 use mathlib.Core.Bool.{Bool, true, false, cond, not, _&&_, _||_}
-use mathlib.Core.List.{List}
-use lib.ListN.{length}
+use mathlib.Core.List.{List, [], _∷_}
+use lib.ListN.{length, getD}
 use lib.Dec.{ltb, eqb}
 use Rattle.json_bytes.specs.Reads.{byteAt, within}
 use Rattle.json_bytes.specs.declared.Reading.{Reading}
@@ -30,11 +30,44 @@ textAt s at = cond (eqb (byteAt s at) 34) (textFrom (length s) s (at + 1)) (Faul
 unfoldable pub barred : ℕ → Bool
 barred c = within 0 8 c || (within 0xB 0xC c || (within 0xE 0x1F c || eqb c 0x7F))
 
--- whitespace, as the type has it: U+0009, 000A, 000D and 0020, and none for Text
+-- Whitespace stands in tables of runs, each run its first and its last code. Document 02, order 2: "Unicode's White_Space
+-- list has 25: U+0009–000D, 0020, 0085, 00A0, 1680, 2000–200A, 2028, 2029, 202F, 205F and 3000. String follows that list
+-- from now on; StringID keeps the four."
+abbrev pub upTo : ℕ → ℕ → List ℕ
+upTo first last = first ∷ last ∷ []
+
+abbrev pub only : ℕ → List ℕ
+only code = code ∷ code ∷ []
+
+unfoldable pub whiteSpace : List (List ℕ)
+whiteSpace =
+    upTo 0x9 0xD ∷
+    only 0x20 ∷
+    only 0x85 ∷
+    only 0xA0 ∷
+    only 0x1680 ∷
+    upTo 0x2000 0x200A ∷
+    upTo 0x2028 0x2029 ∷
+    only 0x202F ∷
+    only 0x205F ∷
+    only 0x3000 ∷
+    []
+
+-- the four of document 01: "whitespace is U+0009, 000A, 000D and 0020"
+unfoldable pub blanks : List (List ℕ)
+blanks = upTo 0x9 0xA ∷ only 0xD ∷ only 0x20 ∷ []
+
+unfoldable pub spacesOf : TextType → List (List ℕ)
+spacesOf Text = []
+spacesOf String = whiteSpace
+spacesOf StringID = blanks
+
+unfoldable pub inRuns : List (List ℕ) → ℕ → Bool
+inRuns [] c = false
+inRuns (run ∷ runs) c = within (getD run 0 0) (getD run 1 0) c || inRuns runs c
+
 unfoldable pub isWhite : TextType → ℕ → Bool
-isWhite Text c = false
-isWhite String c = eqb c 9 || (eqb c 10 || (eqb c 13 || eqb c 32))
-isWhite StringID c = eqb c 9 || (eqb c 10 || (eqb c 13 || eqb c 32))
+isWhite ty c = inRuns (spacesOf ty) c
 
 -- whitespace other than a space is wrong anywhere, and a space at an edge: at the start, at the end, or behind a space
 unfoldable pub wrongSpace : TextType → ℕ → Bool → Bool

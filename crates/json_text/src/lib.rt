@@ -1,7 +1,7 @@
 // A string read whole, with the first character that breaks a rule of its type, in one pass.
 ghost use mathlib.Core.Path.{_≡_};
 ghost use mathlib.Core.Bool.{_||_};
-ghost use Rattle.json_text.specs.Text.{barred, isWhite, wrongSpace, outsideID, ruleOf, wrongHere, firstOf, closesAt, textRead};
+ghost use Rattle.json_text.specs.Text.{barred, whiteSpace, blanks, inRuns, isWhite, wrongSpace, outsideID, ruleOf, wrongHere, firstOf, closesAt, textRead};
 use json_bytes::Reading;
 use json_bytes::byte_at;
 use json_bytes::is_within;
@@ -27,6 +27,62 @@ pub struct TextRead {
     pub wrong: Wrong,
 }
 
+// ---- The characters that count as whitespace: the first and the last code of each run, in order
+
+// Unicode's White_Space list, 25 codes.
+const WHITE_SPACE: [[u32; 2]; 10] = [
+    [0x9, 0xD],
+    [0x20, 0x20],
+    [0x85, 0x85],
+    [0xA0, 0xA0],
+    [0x1680, 0x1680],
+    [0x2000, 0x200A],
+    [0x2028, 0x2029],
+    [0x202F, 0x202F],
+    [0x205F, 0x205F],
+    [0x3000, 0x3000],
+];
+
+// Tab, line feed, carriage return and space.
+const BLANKS: [[u32; 2]; 3] = [[0x9, 0xA], [0xD, 0xD], [0x20, 0x20]];
+
+fn white_space() -> [[u32; 2]; 10]
+    ensures { λ r. ⌜ r ≡ whiteSpace ⌝ }
+{
+    WHITE_SPACE
+}
+
+fn blanks() -> [[u32; 2]; 3]
+    ensures { λ r. ⌜ r ≡ blanks ⌝ }
+{
+    BLANKS
+}
+
+fn in_runs(runs: &[[u32; 2]], c: u32) -> bool
+    ensures { λ r. ⌜ r ≡ inRuns (now (runs .entry)) c ⌝ }
+{
+    let mut i = 0;
+    while i < runs.len() {
+        if is_within(runs[i][0], runs[i][1], c) {
+            return true;
+        }
+        i += 1;
+    }
+    false
+}
+
+// The type chooses the set.
+fn is_white(ty: TextType, c: u32) -> bool
+    ensures { λ r. ⌜ r ≡ isWhite ty c ⌝ }
+{
+    match ty {
+        TextType::Text => false,
+        TextType::String => in_runs(&white_space(), c),
+        TextType::StringID => in_runs(&blanks(), c),
+    }
+}
+
+// ---- The rules of a character
 fn is_barred(c: u32) -> bool
     ensures { λ r. ⌜ r ≡ barred c ⌝ }
 {
@@ -40,31 +96,6 @@ fn is_barred(c: u32) -> bool
         return true;
     }
     c == 0x7F
-}
-
-fn is_blank(c: u32) -> bool
-    ensures { λ r. ⌜ r ≡ isWhite TextType.String c ⌝ }
-{
-    if c == 9 {
-        return true;
-    }
-    if c == 10 {
-        return true;
-    }
-    if c == 13 {
-        return true;
-    }
-    c == 32
-}
-
-fn is_white(ty: TextType, c: u32) -> bool
-    ensures { λ r. ⌜ r ≡ isWhite ty c ⌝ }
-{
-    match ty {
-        TextType::Text => false,
-        TextType::String => is_blank(c),
-        TextType::StringID => is_blank(c),
-    }
 }
 
 fn is_wrong_space(ty: TextType, c: u32, edge: bool) -> bool
@@ -89,10 +120,14 @@ fn is_outside(ty: TextType, c: u32) -> bool
     }
 }
 
-// The rule that a character breaks, 0 for none; at an edge no space may stand.
+// The rule that a character breaks, 0 for none; at an edge no space may stand. Nearly all characters
+// are from U+0021 to U+007E, which break none, and are told first.
 fn rule_of(ty: TextType, c: u32, edge: bool) -> u32
     ensures { λ r. ⌜ r ≡ ruleOf ty c edge ⌝ }
 {
+    if is_within(0x21, 0x7E, c) {
+        return 0;
+    }
     if is_barred(c) {
         return 1;
     }

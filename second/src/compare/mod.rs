@@ -20,5 +20,7 @@ pub mod random;
 #[clippy::msrv = "1.63"]
 pub mod run;
 pub mod tables;
+#[cfg(not(serve_only))]
+mod white_space;
 #[clippy::msrv = "1.63"]
 pub mod wire;

@@ -175,8 +175,33 @@ fn string_rules_by_type() {
             (b"[{\"ID\":\"C1\",\"Name\":\"N\t\"}]", 11, 21),
             ("[{\"ID\":\"C1\",\"Name\":\"é€\",\"Comments\":\" \\t\\n\\r \"}]".as_bytes(), 0, 0),
             (br#"[{"ID":"C1","Name":"\uD83D\uDE00"}]"#, 0, 0),
+            ("[{\"ID\":\"C1\",\"Name\":\"N\u{a0}1\"}]".as_bytes(), 16, 19),
+            (br#"[{"ID":"C1","Name":"N\u00a0"}]"#, 16, 19),
+            (br#"[{"ID":"C1","Name":"N","Comments":"\u00a0\u2028"}]"#, 0, 0),
+            (br#"[{"ID":"C\u00a0"}]"#, 16, 7),
         ],
     );
+}
+
+/// Outside strings only the four spaces of JSON are any, names are compared as
+/// they are, and a Date is one or isn't.
+#[test]
+fn white_characters_elsewhere_are_judged_as_before() {
+    marks(
+        6,
+        &[
+            ("[\u{a0}]".as_bytes(), 11, 1),
+            ("\u{2028}[]".as_bytes(), 11, 0),
+            ("[]\u{3000}".as_bytes(), 11, 2),
+            (b"[\x0B]", 11, 1),
+            ("[{\"ID\u{a0}\":1}]".as_bytes(), 13, 2),
+            (br#"[{"\u3000ID":1}]"#, 13, 2),
+            ("[{\"ID\":\"C1\",\"Name\":\"\u{a0}".as_bytes(), 11, 22),
+            (b"[{\"ID\":\"C1\",\"Name\":\"\xC2\"}]", 10, 20),
+        ],
+    );
+    marks(8, &[("[{\"ExceptionDate\":\"2020-01-01\u{a0}\"}]".as_bytes(), 17, 18)]);
+    marks(15, &[("[{\"Level\":\"\u{a0}\"}]".as_bytes(), 15, 10)]);
 }
 
 #[test]

@@ -1,7 +1,9 @@
 //! The comparison itself: right programs pass, others are caught.
 
-use second::compare::case::{Case, LONGEST, OPS};
+use second::compare::case::{Case, LONGEST, OPS, TEXT};
 use second::compare::cases::all_cases;
+use second::json::decoded_codes;
+use std::collections::BTreeSet;
 use std::process::{Command, Output};
 
 const MOST_BYTES: usize = 60_000_000;
@@ -37,6 +39,18 @@ fn is_sound(case: &Case) -> bool {
         && (case.op == 3 || case.other as usize <= case.b.len() + 2)
         && (case.op != 3 || case.other <= 2)
         && (!fixed || case.b.is_ascii())
+}
+
+/// A program that takes one code more for whitespace, or one fewer, is caught
+/// by a case in which nothing else decides.
+#[test]
+fn whether_a_code_is_white_decides_a_case() {
+    let code_inside = |case: &Case| match decoded_codes(&case.a, case.at as usize)[..] {
+        [0x61, code, 0x62] if case.op == TEXT && case.other == 1 => Some(code),
+        _ => None,
+    };
+    let asked: BTreeSet<u32> = all_cases(4).iter().filter_map(code_inside).collect();
+    assert!((0..0x3100).all(|code| asked.contains(&code)));
 }
 
 #[test]

@@ -97,6 +97,68 @@ fn p8_two_spaces_break_string_and_not_text() {
     assert_eq!(file_mark(2, br#"{"Data_SoftwareComments":"A  B"}"#), (0, 0));
 }
 
+fn software(name: &str, value: &str) -> (u32, u32) {
+    file_mark(2, format!(r#"{{"{name}":"{value}"}}"#).as_bytes())
+}
+
+fn calendar_id(id: &str) -> (u32, u32) {
+    file_mark(6, format!(r#"[{{"ID":"{id}","Name":"N"}}]"#).as_bytes())
+}
+
+/// The characters of the list, but for the space that may stand single and
+/// inside, and those that JSON has to escape.
+const WHITE_CHARACTERS: [char; 19] = [
+    '\u{85}', '\u{a0}', '\u{1680}', '\u{2000}', '\u{2001}', '\u{2002}', '\u{2003}', '\u{2004}',
+    '\u{2005}', '\u{2006}', '\u{2007}', '\u{2008}', '\u{2009}', '\u{200a}', '\u{2028}', '\u{2029}',
+    '\u{202f}', '\u{205f}', '\u{3000}',
+];
+
+#[test]
+fn order_2_a_string_has_no_whitespace_but_single_inner_spaces() {
+    let patterns = ["*", "*A", "A*B", "A*", "A**B", "A *B", "A* B"];
+    for c in WHITE_CHARACTERS {
+        let code = u32::from(c);
+        for written in [c.to_string(), format!("\\u{code:04x}"), format!("\\u{code:04X}")] {
+            for pattern in patterns {
+                let value = pattern.replace('*', &written);
+                assert_eq!(software("Data_SoftwareName", &value), (16, 21), "{value}");
+                assert_eq!(software("Data_SoftwareComments", &value), (0, 0), "{value}");
+                assert_eq!(calendar_id(&value), (16, 7), "{value}");
+            }
+        }
+    }
+    for escape in ["\\t", "\\n", "\\r", "\\u0009", "\\u000a", "\\u000D"] {
+        let value = format!("A{escape}B");
+        assert_eq!(software("Data_SoftwareName", &value), (16, 21), "{value}");
+        assert_eq!(software("Data_SoftwareComments", &value), (0, 0), "{value}");
+        assert_eq!(calendar_id(&value), (16, 7), "{value}");
+    }
+    // These two are barred, so Text takes them no more than the others.
+    for escape in ["\\u000b", "\\u000C", "\\f"] {
+        let value = format!("A{escape}B");
+        assert_eq!(software("Data_SoftwareName", &value), (16, 21), "{value}");
+        assert_eq!(software("Data_SoftwareComments", &value), (16, 25), "{value}");
+    }
+    assert_eq!(software("Data_SoftwareName", "A B"), (0, 0));
+    assert_eq!(calendar_id("A B"), (0, 0));
+}
+
+#[test]
+fn order_2_only_the_list_is_whitespace() {
+    let beside = "\u{84}\u{86}\u{9f}\u{a1}\u{167f}\u{1681}\u{1fff}\u{200b}\u{2027}\u{202a}\u{202e}\
+        \u{2030}\u{205e}\u{2060}\u{2fff}\u{3001}";
+    let unseen = "\u{180e}\u{200c}\u{2800}\u{3164}\u{feff}";
+    // The low 16 bits of the first three, and the low 8 of the others, are white.
+    let alike = "\u{12000}\u{12028}\u{13000}\u{1f0a0}\u{120}\u{1a0}";
+    for c in [beside, unseen, alike].concat().chars() {
+        assert_eq!(software("Data_SoftwareName", &format!("{c}A {c}{c}")), (0, 0), "{c:?}");
+        assert_eq!(calendar_id(&format!("A{c}")), (16, 7), "{c:?}");
+    }
+    for pair in ["\\uD808\\uDC00", "\\ud80c\\udc00", "\\uD83C\\uDCA0"] {
+        assert_eq!(software("Data_SoftwareName", pair), (0, 0), "{pair}");
+    }
+}
+
 /// An outline of these levels and parents, with TaskIDs 1, 2, 3 and so on.
 fn outline(rows: &[(i64, &str)]) -> Set {
     let row = |(index, (level, parent)): (usize, &(i64, &str))| {

@@ -1,7 +1,9 @@
--- `json_text::is_white` meets its contract: by the cases of the type.
+-- `json_text::is_white` meets its contract: by the cases of the type, each with its own table.
 use borrow.Author.Needs.{needs}
-use mathlib.Core.Path.{_≡_, refl, sym, ap, _∙_}
-use Rattle.json_text.specs.Text.{isWhite}
+use mathlib.Core.Path.{refl, sym, ap, _∙_}
+use mathlib.Core.List.{[]}
+use Rattle.json_text.specs.Text.{spacesOf, inRuns}
+use Rattle.json_text.proofs.Spaces.{of-set}
 use Rattle.json_text.proofs.is_white.Statement.{statement}
 use Rattle.json_text.proofs.is_white.Tie as tie
 
@@ -11,26 +13,38 @@ enum-told c = search needs
 enum-told-2 : tie.Need-enum-told-2
 enum-told-2 c = search needs
 
-is-blank-requires : tie.Need-is-blank-requires
-is-blank-requires c κs = search needs
+white-space-requires : tie.Need-white-space-requires
+white-space-requires c κs = search needs
+
+slice-aggregate-in-runs : tie.Need-slice-aggregate-in-runs
+slice-aggregate-in-runs c = search needs
+
+in-runs-requires : tie.Need-in-runs-requires
+in-runs-requires c κs = search needs
 
 enum-told-3 : tie.Need-enum-told-3
 enum-told-3 c = search needs
 
-is-blank-requires-2 : tie.Need-is-blank-requires-2
-is-blank-requires-2 c κs = search needs
+blanks-requires : tie.Need-blanks-requires
+blanks-requires c κs = search needs
+
+slice-aggregate-in-runs-2 : tie.Need-slice-aggregate-in-runs-2
+slice-aggregate-in-runs-2 c = search needs
+
+in-runs-requires-2 : tie.Need-in-runs-requires-2
+in-runs-requires-2 c κs = search needs
 
 returns : tie.Need-returns
-unfolding isWhite
-returns c = rw (c .enum-told .given .1)
+unfolding spacesOf inRuns
+returns c = of-set _ _ [] (ap spacesOf (c .enum-told .given .1)) refl
 
 returns-2 : tie.Need-returns-2
-unfolding isWhite
-returns-2 c = rw (c .before .enum-told2 .given .1) (c .is-blank .ensures)
+unfolding spacesOf
+returns-2 c = of-set _ _ _ (ap spacesOf (c .before .before .before .enum-told2 .given .1) ∙ sym (c .before .before .white-space .ensures)) (c .in-runs .ensures)
 
 returns-3 : tie.Need-returns-3
-unfolding isWhite
-returns-3 c = rw (c .before .enum-told3 .given .1) (c .is-blank2 .ensures)
+unfolding spacesOf
+returns-3 c = of-set _ _ _ (ap spacesOf (c .before .before .before .enum-told3 .given .1) ∙ sym (c .before .before .blanks .ensures)) (c .in-runs2 .ensures)
 
 pub is-white-spec : {M : Type 1} → statement M
 is-white-spec =
@@ -38,9 +52,13 @@ is-white-spec =
     (tie.spec
     enum-told
     enum-told-2
-    is-blank-requires
+    white-space-requires
+    slice-aggregate-in-runs
+    in-runs-requires
     enum-told-3
-    is-blank-requires-2
+    blanks-requires
+    slice-aggregate-in-runs-2
+    in-runs-requires-2
     returns
     returns-2
     returns-3)

@@ -14,7 +14,7 @@ pub(super) fn add(cases: &mut Cases) {
 }
 
 /// Pieces of all the things that are read.
-const PIECES: [&[u8]; 40] = [
+const PIECES: [&[u8]; 45] = [
     b" ",
     b"\t",
     b"\n",
@@ -33,6 +33,11 @@ const PIECES: [&[u8]; 40] = [
     b"\xC3\xA9",
     b"\xE2\x82\xAC",
     b"\xF0\x9F\x98\x80",
+    b"\xC2\xA0",
+    b"\xE2\x80\xA8",
+    b"\xE2\x80\x8B",
+    b"\\u3000",
+    b"\\u2009",
     b"\xE2\x82",
     b"\xFF",
     b"a",

@@ -17,7 +17,7 @@ pub(super) fn add(cases: &mut Cases) {
 
 /// Whole strings that between them hold every way to write a character.
 fn samples() -> Vec<Vec<u8>> {
-    let written: [&[u8]; 32] = [
+    let written: [&[u8]; 34] = [
         br#""""#,
         br#""A""#,
         br#""ENG-01""#,
@@ -46,6 +46,8 @@ fn samples() -> Vec<Vec<u8>> {
         br#""A\u0009B""#,
         br#""A\u00A0B""#,
         br#""\u000b\u000C\u000e""#,
+        "\"A\u{A0}B\u{2028}\"".as_bytes(),
+        br#""A \u3000\u200B\u205f""#,
         "\"é\"".as_bytes(),
         "\"€ 5\"".as_bytes(),
         "\"a\u{1F600}b\u{10FFFF}\"".as_bytes(),
@@ -181,6 +183,10 @@ fn add_long_strings(cases: &mut Cases) {
     cases.text_by_each_kind(0, &escapes);
     let last_wrong = quoted(&joined(&[&vec![b'a'; 99_000], b"b "]));
     cases.text_by_each_kind(0, &last_wrong);
+    let last_white = quoted(&joined(&[&vec![b'a'; 99_000], "\u{A0}".as_bytes()]));
+    cases.text_by_each_kind(0, &last_white);
+    let unlisted = quoted("a\u{200B}\\u180E ".repeat(7_000).trim_end().as_bytes());
+    cases.text_by_each_kind(0, &unlisted);
     let last_broken = joined(&[b"\"", &vec![b'a'; 99_000], &[0xE2, 0x82]]);
     cases.text_by_each_kind(0, &last_broken);
 }

@@ -1,11 +1,25 @@
 //! The string rules: which is broken first, and where.
 
 use super::{joined, quoted, written, Cases, Style, STYLES};
+use crate::compare::case::TEXT;
+use crate::compare::white_space::{
+    placed, white_in_low_bits, writings, BESIDE, UNLISTED, WHITE_SPACE,
+};
+
+/// The text kind that takes the whole White_Space list for whitespace.
+const STRING: usize = 1;
+
+/// All of the list is below this code.
+const ABOVE_THE_LIST: u32 = 0x3100;
 
 pub(super) fn add(cases: &mut Cases) {
     add_pairs_of_codes(cases);
     add_codes_at_each_end(cases);
     add_space_patterns(cases);
+    add_white_space(cases);
+    add_pairs_of_white_space(cases);
+    add_white_in_low_bits(cases);
+    add_each_code(cases);
 }
 
 /// Both sides of each line of the string rules.
@@ -60,4 +74,56 @@ fn add_space_patterns(cases: &mut Cases) {
             cases.text_by_each_kind(0, &quoted(pattern));
         }
     }
+}
+
+/// Each code of the list, and each that is near to it or looks so, in every
+/// writing at every place.
+fn add_white_space(cases: &mut Cases) {
+    for code in WHITE_SPACE.into_iter().chain(BESIDE).chain(UNLISTED) {
+        for character in writings(code) {
+            for inner in placed(&character) {
+                cases.text_by_each_kind(0, &quoted(&inner));
+            }
+        }
+    }
+}
+
+/// The first of two is wrong unless it is a single space.
+fn add_pairs_of_white_space(cases: &mut Cases) {
+    for first in WHITE_SPACE {
+        for second in WHITE_SPACE {
+            let characters = [first, second].map(|code| {
+                let style = cases.random.pick(&STYLES);
+                written(code, style)
+            });
+            cases.text_by_each_kind(0, &quoted(&joined(&[b"a", &characters.concat(), b"z"])));
+        }
+    }
+}
+
+fn add_white_in_low_bits(cases: &mut Cases) {
+    for code in white_in_low_bits() {
+        let style = cases.random.pick(&STYLES);
+        for inner in placed(&written(code, style)) {
+            cases.push(TEXT, 0, STRING, &quoted(&inner), &[]);
+        }
+    }
+}
+
+/// Every code up to the list's last one, and some from everywhere.
+fn add_each_code(cases: &mut Cases) {
+    for code in 0..ABOVE_THE_LIST {
+        add_code(cases, code);
+    }
+    for _ in 0..2_000 {
+        let code = cases.random.below(0x11_0000) as u32;
+        add_code(cases, code);
+    }
+}
+
+/// Inside a String, where no other rule hides whether it is whitespace.
+fn add_code(cases: &mut Cases, code: u32) {
+    let style = cases.random.pick(&STYLES);
+    let inner = joined(&[b"a", &written(code, style), b"b"]);
+    cases.push(TEXT, 0, STRING, &quoted(&inner), &[]);
 }

@@ -17,6 +17,7 @@ mod runs;
 mod sizes;
 mod targets;
 mod unread;
+mod white_space;
 
 use std::sync::Arc;
 
@@ -36,6 +37,7 @@ pub fn all_cases(seed: u64) -> Vec<GateCase> {
     records::add(&mut cases);
     outline::add(&mut cases);
     unread::add(&mut cases);
+    white_space::add(&mut cases);
     mutated::add(&mut cases);
     files::add(&mut cases);
     long::add(&mut cases);

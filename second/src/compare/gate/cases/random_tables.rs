@@ -58,8 +58,8 @@ pub(super) fn random_value(field: &Field, random: &mut Random) -> Vec<u8> {
         Type::Date => quoted(random.pick(&DATES)),
         Type::Decimal => random.pick(&DECIMALS).to_vec(),
         Type::Integer => renumbered(random.pick(&INTEGERS), random),
-        Type::String => quoted(random.pick(&["x", "a b", "20/80", "\\u00e9", "ß"])),
-        Type::Text => quoted(random.pick(&["x", " a  b ", "\\n", "\\uD83D\\uDE00", "Ä"])),
+        Type::String => quoted(random.pick(&STRINGS)),
+        Type::Text => quoted(random.pick(&TEXTS)),
     }
 }
 
@@ -69,6 +69,11 @@ pub(super) fn random_null(kind: Type, random: &mut Random) -> &'static [u8] {
         Type::Boolean | Type::Date | Type::Decimal | Type::Integer => b"null",
     }
 }
+
+const STRINGS: [&str; 7] = ["x", "a b", "20/80", "\\u00e9", "ß", "\u{200b}", "\\u180E a"];
+
+const TEXTS: [&str; 7] =
+    ["x", " a  b ", "\\n", "\\uD83D\\uDE00", "Ä", "\u{a0}", "\\u2028 \u{3000}"];
 
 const DATES: [&str; 5] = ["2020-12-25", "2020-12-26", "2020-02-29", "0001-01-01", "9999-12-31"];
 

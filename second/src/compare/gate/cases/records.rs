@@ -140,7 +140,16 @@ fn add_hours_of_each_sign(cases: &mut Cases, size: &str) {
     }
 }
 
-const STRINGS: Choices = &[None, Some(b"null"), Some(b"\"\""), Some(b"\"x\"")];
+/// The last two make their file unreadable: they hold white characters.
+const STRINGS: Choices = &[
+    None,
+    Some(b"null"),
+    Some(b"\"\""),
+    Some(b"\"x\""),
+    Some(b"\"\xE2\x80\x8B\""),
+    Some(b"\"\xC2\xA0\""),
+    Some(b"\"x\\u2028y\""),
+];
 const BOOLEANS: Choices = &[None, Some(b"null"), Some(b"true"), Some(b"false")];
 const DATES: Choices = &[None, Some(b"null"), Some(b"\"2020-01-01\"")];
 const DURATIONS: Choices = &[None, Some(b"null"), Some(b"0")];

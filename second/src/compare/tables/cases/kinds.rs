@@ -34,7 +34,7 @@ fn add_value_in_field(cases: &mut Cases, field: &Field, value: &[u8]) {
 }
 
 /// Values that give kinds 10, 11 and 15 to 19 in some field.
-const SPOILT: [&[u8]; 34] = [
+const SPOILT: [&[u8]; 36] = [
     b"\"A\xFF\"",
     b"\"\xC3\"",
     b"\"\xED\xA0\x80\"",
@@ -56,6 +56,8 @@ const SPOILT: [&[u8]; 34] = [
     b"\" A\"",
     b"\"A  B\"",
     b"\"A\\n\"",
+    b"\"A\xC2\xA0B\"",
+    b"\"\\u3000\"",
     b"\"\\uD800\"",
     b"\"\xC3\xA9\"",
     b"\"2016-02-30\"",

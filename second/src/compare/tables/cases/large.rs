@@ -125,10 +125,12 @@ fn add_deep(cases: &mut Cases) {
 }
 
 fn add_long_strings(cases: &mut Cases) {
-    let pieces: [&[u8]; 8] = [
+    let pieces: [&[u8]; 10] = [
         b"A",
         b"A ",
         b"\xC3\xA9",
+        b"\xE2\x80\x8B",
+        b"A\xC2\xA0",
         b"\\u0041",
         b"\\n",
         b"\\\"",
@@ -137,7 +139,7 @@ fn add_long_strings(cases: &mut Cases) {
     ];
     for piece in pieces {
         let long = piece.repeat(LONG / piece.len());
-        for end in [&b"A\""[..], b"", b"\xFF\"", b"\\", b" \""] {
+        for end in [&b"A\""[..], b"", b"\xFF\"", b"\\", b" \"", b"\xE3\x80\x80\""] {
             add_long_string(cases, &joined(&[b"\"", &long, end]));
         }
     }

@@ -3,6 +3,9 @@
 use super::draft::{quoted, Draft};
 use super::{joined, Cases};
 use crate::compare::padded::{padded, padded_forms, SIGNIFICANDS, ZEROS};
+use crate::compare::white_space::{
+    placed, white_in_low_bits, writings, BESIDE, UNLISTED, WHITE_SPACE,
+};
 
 pub(super) fn add(cases: &mut Cases) {
     add_number_limits(cases);
@@ -12,6 +15,8 @@ pub(super) fn add(cases: &mut Cases) {
     add_wrong_dates(cases);
     add_characters(cases);
     add_space_patterns(cases);
+    add_white_space(cases);
+    add_white_in_low_bits(cases);
     add_surrogates(cases);
 }
 
@@ -174,6 +179,10 @@ fn add_wrong_dates(cases: &mut Cases) {
         "2016_01-31",
         "2016-01-31 ",
         " 2016-01-31",
+        "2016-01-31\u{a0}",
+        "\\u30002016-01-31",
+        "2016\\u00a001-31",
+        "\u{a0}",
         "2016-01-31Z",
         "2016-01-31T00:00:00",
         "2016-Jan-31",
@@ -243,7 +252,7 @@ fn edge_codes() -> Vec<u32> {
 }
 
 /// As an escape, and as itself where that can be.
-fn writings(code: u32) -> Vec<Vec<u8>> {
+fn escape_and_raw(code: u32) -> Vec<Vec<u8>> {
     let mut units = [0; 2];
     let escape: String = match char::from_u32(code) {
         Some(c) => c.encode_utf16(&mut units).iter().map(|unit| format!("\\u{unit:04X}")).collect(),
@@ -256,7 +265,7 @@ fn writings(code: u32) -> Vec<Vec<u8>> {
 /// Each alone, first, inside and last.
 fn add_characters(cases: &mut Cases) {
     for code in edge_codes() {
-        for written in writings(code) {
+        for written in escape_and_raw(code) {
             cases.string(&written);
             cases.string(&joined(&[&written, b"A"]));
             cases.string(&joined(&[b"A", &written, b"B"]));
@@ -279,6 +288,26 @@ fn add_space_patterns(cases: &mut Cases) {
             let escaped =
                 String::from_utf8(plain).expect("letters and spaces").replace(' ', "\\u0020");
             cases.string(escaped.as_bytes());
+        }
+    }
+}
+
+/// Each character of the White_Space list, and each that is near to it or looks
+/// so, in every writing at every place.
+fn add_white_space(cases: &mut Cases) {
+    for code in WHITE_SPACE.into_iter().chain(BESIDE).chain(UNLISTED) {
+        for written in writings(code) {
+            for inner in placed(&written) {
+                cases.string(&inner);
+            }
+        }
+    }
+}
+
+fn add_white_in_low_bits(cases: &mut Cases) {
+    for code in white_in_low_bits() {
+        for written in writings(code) {
+            cases.string(&joined(&[b"A", &written, b"B"]));
         }
     }
 }

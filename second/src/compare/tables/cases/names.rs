@@ -89,6 +89,8 @@ fn add_misspelt(cases: &mut Cases, field: &Field) {
         format!("{name}\\n"),
         format!("{name}\u{e9}"),
         format!("{name}\u{200b}"),
+        format!("{name}\u{a0}"),
+        format!("\\u3000{name}"),
         format!("{wide}{rest}"),
         format!("{}{rest}", escaped(first + 0x100)),
         format!("{}{rest}", escaped(first + 0x8000)),

@@ -7,15 +7,18 @@ use super::{joined, tables, Cases, FOUR_SPACES};
 use crate::fields::fields_of;
 
 /// None of these is a space of JSON.
-const NO_SPACES: [&[u8]; 11] = [
+const NO_SPACES: [&[u8]; 14] = [
     b"\x0B",
     b"\x0C",
     b"\x00",
     b"\x1C",
     b"\x85",
     b"\xA0",
+    b"\xC2\x85",
     b"\xC2\xA0",
+    b"\xE2\x80\x83",
     b"\xE2\x80\xA8",
+    b"\xE3\x80\x80",
     b"\xEF\xBB\xBF",
     b"/**/",
     b"\\n",

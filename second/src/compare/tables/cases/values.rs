@@ -61,19 +61,21 @@ const IDS: [&[u8]; 8] = [
     b"\"\\u007E\\u0020x\"",
 ];
 
-const STRINGS: [&[u8]; 9] = [
+const STRINGS: [&[u8]; 11] = [
     b"\"N\"",
     b"\"Two words\"",
     b"\"\xC3\xA9\"",
     b"\"\\u00e9\\uD83D\\uDE00\"",
     b"\"\xF0\x9F\x98\x80 \xE2\x82\xAC\"",
     b"\"\\\\\"",
-    b"\"\xC2\xA0\"",
+    b"\"\xC2\xA1\"",
     b"\"null\"",
-    b"\"\\u0085\\uFFFF\"",
+    b"\"\\u0086\\uFFFF\"",
+    b"\"\xE2\x80\x8BA \\u180e\"",
+    b"\"\\uD808\\uDC00\xEF\xBB\xBF\"",
 ];
 
-const TEXTS: [&[u8]; 9] = [
+const TEXTS: [&[u8]; 11] = [
     b"\"Remark\"",
     b"\" \"",
     b"\"two  spaces \"",
@@ -81,6 +83,8 @@ const TEXTS: [&[u8]; 9] = [
     b"\"\\u0009\\u000a\\u000D\\u0020\"",
     b"\"\xC3\xA9\xE2\x82\xAC\xF0\x9F\x98\x80\"",
     b"\"\\uD83D\\uDE00\"",
+    b"\"\xC2\xA0\\u2028\xE3\x80\x80\"",
+    b"\"\\u0085 \\u205F\"",
     b"\"\\\"},{\\\"ID\\\":\"",
     b"\"]\"",
 ];
@@ -109,7 +113,7 @@ pub(super) fn may_be_empty(kind: Type) -> bool {
 }
 
 /// Every JSON kind, good and bad, and what is no JSON.
-pub(super) const VALUES: [&[u8]; 114] = [
+pub(super) const VALUES: [&[u8]; 122] = [
     // Strings: read whole, of which some are good for some type.
     b"\"\"",
     b"\"A\"",
@@ -121,6 +125,14 @@ pub(super) const VALUES: [&[u8]; 114] = [
     b"\"\\r\\n\"",
     b"\"\xC3\xA9\"",
     b"\"\xC2\xA0A\"",
+    b"\"A\xC2\xA0B\"",
+    b"\"A\\u00a0\"",
+    b"\"\\u00A0\"",
+    b"\"A \xE2\x80\xA8B\"",
+    b"\"A\\u3000\"",
+    b"\"\xC2\x85A\"",
+    b"\"A\xE2\x80\x8BB\"",
+    b"\"\\uD80C\\uDC00\"",
     b"\"\\u00e9\"",
     b"\"\\u0000\"",
     b"\"A\\u001F\"",
