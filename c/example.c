@@ -26,6 +26,7 @@ int main(int argc, char **argv) {
         fprintf(stderr, "%s: cannot be read\n", argv[1]);
         return 2;
     }
+    /* For a small stack: knotsaddle_judge_in, with a static list of KNOTSADDLE_WORKSPACE numbers lent to it. */
     uint32_t refusal = knotsaddle_judge(bundle, length, kinds, KNOTSADDLE_MARKS, places, KNOTSADDLE_MARKS);
     size_t written = knotsaddle_report(refusal, kinds, KNOTSADDLE_MARKS, places, KNOTSADDLE_MARKS, text, sizeof text);
     if (fwrite(text, 1, written, stdout) != written || fflush(stdout) != 0) {

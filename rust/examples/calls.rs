@@ -1,6 +1,8 @@
 //! Calls each function of the wrapper and checks its answer; ends in how many were right.
 
-use knotsaddle::{file, judge, make_change, report, try_change, Board, Refusal};
+use knotsaddle::{
+    file, judge, judge_in, make_change, make_in, report, try_change, try_in, Board, Refusal, WORKSPACE,
+};
 
 struct Count {
     passed: u32,
@@ -44,6 +46,35 @@ fn main() {
     count.expect("file 20", try_change(&bundle, &board, 20, None) == Err(Refusal(4)));
     count.expect("a file asked for", file(&out[..166], 19) == Ok(Some(&b"[]"[..])));
     count.expect("an omitted file asked for", file(&bundle, 19) == Ok(None));
+
+    // in a lent workspace: what the calls above answer, in one that is filled and then in the same one as it is left
+    let mut work = vec![u32::MAX; WORKSPACE];
+    count.expect("judged in a workspace", judge_in(&bundle, &mut work).as_ref() == Ok(&board));
+    let mut out_in = vec![9; 300];
+    let made_in = make_in(&bundle, &board, 19, Some(b"[]"), &mut out_in, &mut work);
+    count.expect("a change in a workspace", made_in == made);
+    count.expect("what it writes", out_in == out);
+    let tried_in = try_in(&bundle, &board, 19, Some(b"[]"), &mut work);
+    count.expect("a try in a workspace", tried_in == tried);
+
+    // in one that is too short, which is then as it was
+    let mut short = vec![7; WORKSPACE - 1];
+    count.expect("judged in too short a one", judge_in(&bundle, &mut short) == Err(Refusal(14)));
+    count.expect("its text", report(&judge_in(&bundle, &mut short)) == "bundle 14\n");
+    let tried_in = try_in(&bundle, &board, 19, None, &mut short);
+    count.expect("a try in too short a one", tried_in == Err(Refusal(14)));
+    let made_in = make_in(&bundle, &board, 18, Some(b"[]"), &mut out_in, &mut short);
+    count.expect("a change in too short a one", made_in == Err(Refusal(14)));
+    count.expect("what it writes", out_in == out && short.iter().all(|&number| number == 7));
+
+    // a thread with 64 KB of stack, where `judge` would end the program
+    let bundle = &out[..166];
+    let judged = std::thread::scope(|scope| {
+        let thread = std::thread::Builder::new().stack_size(65536);
+        let started = thread.spawn_scoped(scope, || judge_in(bundle, &mut work));
+        started.ok().and_then(|judging| judging.join().ok())
+    });
+    count.expect("judged on a small stack", judged == Some(judge(bundle)));
 
     println!("{} passed, {} failed", count.passed, count.failed);
 }

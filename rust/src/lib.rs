@@ -1,13 +1,18 @@
 //! The gate: judge a bundle in full, try a change, make it, ask for a file, print a report.
 //!
 //! It stands on the static library that `rt staticlib gate_c` writes, for x86-64 Linux. Set `KNOTSADDLE_LIB_DIR` to the
-//! folder that holds `libgate_c.a`; without it `../target/staticlib` is searched. A call uses some 3.3 MB of stack: a
-//! thread that makes one needs `std::thread::Builder::stack_size` of 8 MB or so, since Rust gives it 2.
+//! folder that holds `libgate_c.a`; without it `../target/staticlib` is searched.
+//!
+//! `judge`, `try_change` and `make_change` use some 3.3 MB of stack: a thread that calls one needs
+//! `std::thread::Builder::stack_size` of 8 MB or so, since Rust gives it 2. `judge_in`, `try_in` and `make_in` do the same
+//! in a workspace that is lent to them, and use some 36 KB.
 
 /// How many marks a board has.
 pub const MARKS: usize = 81;
 /// The room that a report needs.
 pub const REPORT_ROOM: usize = 4096;
+/// How many numbers a lent workspace must have.
+pub const WORKSPACE: usize = 794_702;
 
 /// The board: a kind and a place for each mark. Kind 0: the mark holds.
 #[derive(Clone, Debug, PartialEq, Eq)]
@@ -31,7 +36,7 @@ impl Board {
     }
 }
 
-/// Why a bundle or a change is refused, by document 01's number, 1 to 6.
+/// Why a bundle or a change is refused, by document 01's number, 1 to 6; 14 where a lent workspace is too short.
 #[derive(Clone, Copy, Debug, PartialEq, Eq)]
 pub struct Refusal(pub u32);
 
@@ -45,6 +50,16 @@ extern "C" {
         places: *mut usize,
         places_length: usize,
     ) -> u32;
+    fn knotsaddle_judge_in(
+        bundle: *const u8,
+        bundle_length: usize,
+        kinds: *mut u32,
+        kinds_length: usize,
+        places: *mut usize,
+        places_length: usize,
+        work: *mut u32,
+        work_length: usize,
+    ) -> u32;
     fn knotsaddle_try(
         bundle: *const u8,
         bundle_length: usize,
@@ -56,6 +71,20 @@ extern "C" {
         present: u32,
         new_bytes: *const u8,
         new_bytes_length: usize,
+    ) -> u32;
+    fn knotsaddle_try_in(
+        bundle: *const u8,
+        bundle_length: usize,
+        kinds: *mut u32,
+        kinds_length: usize,
+        places: *mut usize,
+        places_length: usize,
+        file: usize,
+        present: u32,
+        new_bytes: *const u8,
+        new_bytes_length: usize,
+        work: *mut u32,
+        work_length: usize,
     ) -> u32;
     fn knotsaddle_make(
         bundle: *const u8,
@@ -72,6 +101,24 @@ extern "C" {
         out_length: usize,
         size: *mut usize,
         size_length: usize,
+    ) -> u32;
+    fn knotsaddle_make_in(
+        bundle: *const u8,
+        bundle_length: usize,
+        kinds: *mut u32,
+        kinds_length: usize,
+        places: *mut usize,
+        places_length: usize,
+        file: usize,
+        present: u32,
+        new_bytes: *const u8,
+        new_bytes_length: usize,
+        out: *mut u8,
+        out_length: usize,
+        size: *mut usize,
+        size_length: usize,
+        work: *mut u32,
+        work_length: usize,
     ) -> u32;
     fn knotsaddle_file(
         bundle: *const u8,
@@ -117,6 +164,26 @@ pub fn judge(bundle: &[u8]) -> Result<Board, Refusal> {
     answer(refusal, board)
 }
 
+/// Judges a bundle in full in a lent workspace of at least `WORKSPACE` numbers, whatever they are. After a refusal it is as
+/// it was, else it holds what was read; it may be lent again as it is.
+pub fn judge_in(bundle: &[u8], work: &mut [u32]) -> Result<Board, Refusal> {
+    let mut board = Board::fresh();
+    // As in `judge`; `work` is lent alone too.
+    let refusal = unsafe {
+        knotsaddle_judge_in(
+            bundle.as_ptr(),
+            bundle.len(),
+            board.kinds.as_mut_ptr(),
+            MARKS,
+            board.places.as_mut_ptr(),
+            MARKS,
+            work.as_mut_ptr(),
+            work.len(),
+        )
+    };
+    answer(refusal, board)
+}
+
 /// Tries a change of a file, 0 to 19, to new bytes or, with `None`, to no file: the board after it. No bundle is made.
 pub fn try_change(
     bundle: &[u8],
@@ -139,6 +206,36 @@ pub fn try_change(
             new.is_some() as u32,
             bytes.as_ptr(),
             bytes.len(),
+        )
+    };
+    answer(refusal, board)
+}
+
+/// Tries a change in a lent workspace, as `judge_in` has it.
+pub fn try_in(
+    bundle: &[u8],
+    board: &Board,
+    file: usize,
+    new: Option<&[u8]>,
+    work: &mut [u32],
+) -> Result<Board, Refusal> {
+    let mut board = board.clone();
+    let bytes = new.unwrap_or(&[]);
+    // As in `try_change`; `work` is lent alone too.
+    let refusal = unsafe {
+        knotsaddle_try_in(
+            bundle.as_ptr(),
+            bundle.len(),
+            board.kinds.as_mut_ptr(),
+            MARKS,
+            board.places.as_mut_ptr(),
+            MARKS,
+            file,
+            new.is_some() as u32,
+            bytes.as_ptr(),
+            bytes.len(),
+            work.as_mut_ptr(),
+            work.len(),
         )
     };
     answer(refusal, board)
@@ -173,6 +270,42 @@ pub fn make_change(
             out.len(),
             size.as_mut_ptr(),
             1,
+        )
+    };
+    answer(refusal, (board, size[0]))
+}
+
+/// Makes a change in a lent workspace, as `judge_in` has it.
+pub fn make_in(
+    bundle: &[u8],
+    board: &Board,
+    file: usize,
+    new: Option<&[u8]>,
+    out: &mut [u8],
+    work: &mut [u32],
+) -> Result<(Board, usize), Refusal> {
+    let mut board = board.clone();
+    let bytes = new.unwrap_or(&[]);
+    let mut size = [0usize; 1];
+    // As in `make_change`; `work` is lent alone too.
+    let refusal = unsafe {
+        knotsaddle_make_in(
+            bundle.as_ptr(),
+            bundle.len(),
+            board.kinds.as_mut_ptr(),
+            MARKS,
+            board.places.as_mut_ptr(),
+            MARKS,
+            file,
+            new.is_some() as u32,
+            bytes.as_ptr(),
+            bytes.len(),
+            out.as_mut_ptr(),
+            out.len(),
+            size.as_mut_ptr(),
+            1,
+            work.as_mut_ptr(),
+            work.len(),
         )
     };
     answer(refusal, (board, size[0]))

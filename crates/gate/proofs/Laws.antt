@@ -3,7 +3,7 @@
 -- Assumes nothing.
 use Prim.Native.Nat.{ℕ, zero, suc, _+_, _-_, _≤_, _<_}
 use mathlib.Core.Path.{_≡_, refl, sym, ap, _∙_}
-use mathlib.Core.Bool.{Bool, true, false, _&&_, true≢false}
+use mathlib.Core.Bool.{Bool, true, false, cond, _&&_, true≢false}
 use mathlib.Core.Logic.{⊎-elim}
 use mathlib.Core.List.{List, _++_}
 use native.Mathlib.Nat.{eq-or-lt-of-le}
@@ -11,11 +11,12 @@ use native.Mathlib.Numerals.{add-one}
 use native.Mathlib.Omega.{arith}
 use borrow.Author.Tests.{lt-ltb, le-ltb, eq-eqb, ne-eqb}
 use lib.ListN.{length, getD, set, drop}
+use lib.Dec.{eqb}
 use lib.Seq.{getD-set-same, getD-set-other}
 use Rattle.bundle_bytes.specs.Files.{File, bytesOf}
 use Rattle.bundle_bytes.proofs.Laws.{changed-other}
 use Rattle.bundle_layout.specs.Bundle.{bundleFault, fileAt, bundleLength}
-use Rattle.bundle_layout.specs.Change.{filesAfter}
+use Rattle.bundle_layout.specs.Change.{filesAfter, tryFault, makeFault}
 use Rattle.bundle.specs.Answers.{changeOf, triedBundle, madeBundle}
 use Rattle.bundle.specs.declared.Made.{Made}
 use Rattle.rule_rows.specs.Rules.{ruleRows, readsFile}
@@ -28,7 +29,8 @@ use Rattle.board.specs.declared.Board.{Board}
 use Rattle.board.proofs.Laws.{list-stored, list-passed, board-same}
 use Rattle.gate.specs.declared.Verdict.{Verdict}
 use Rattle.gate.specs.Gate.{verdict, fullBoard, changedBoard, judgement, accepted, answered, tried, changeMade}
-use Rattle.gate.specs.Again.{isTouched, neededFrom, isNeeded, newMark, ReadTo}
+use Rattle.gate.specs.Again.{isTouched, neededFrom, isNeeded, newMark, ended, ReadTo}
+use Rattle.gate.specs.Lent.{workspace}
 
 -- ---- the search for a mark that is judged and reads a file: what is left of it at mark m
 module _ (rows : List ℕ) (all : Bool) (k file : ℕ) where
@@ -71,7 +73,7 @@ module _ (rows : List ℕ) (all : Bool) (k file : ℕ) where
 lt-of-ne : (f i : ℕ) → f < i + 1 → (f ≡ i → ⊥) → f < i
 lt-of-ne f i l n = omega arith
 
-by-last : {A : Type 0} (f i : ℕ) → f < i + 1 → (f ≡ i → A) → (f < i → (f ≡ i → ⊥) → A) → A
+pub by-last : {A : Type 0} (f i : ℕ) → f < i + 1 → (f ≡ i → A) → (f < i → (f ≡ i → ⊥) → A) → A
 by-last f i l here before = ⊎-elim here (λ h. before h (λ q. omega arith)) (eq-or-lt-of-le {n = f} {m = i} (omega arith))
 
 module _ (all : Bool) (k : ℕ) (files : ℕ → File) (work kinds places records : List ℕ) where
@@ -98,7 +100,7 @@ module _ (all : Bool) (k : ℕ) (files : ℕ → File) (work kinds places record
       value-turn list of x len is before f l e =
           by-last f i l (λ q. rw q (getD-set-same list i x 0 (omega arith) ∙ is)) (λ h n. getD-set-other list i f x 0 n ∙ before f h e)
 
-      pub read-turn : 794702 ≤ length work → length kinds ≡ 20 → length places ≡ 20 → length records ≡ 20 → ReadTo (i + 1) all k files (workAfter i (files i) work) (set kinds i (readIn i (files i) work .kind)) (set places i (readIn i (files i) work .place)) (set records i (readIn i (files i) work .records))
+      pub read-turn : workspace ≤ length work → length kinds ≡ 20 → length places ≡ 20 → length records ≡ 20 → ReadTo (i + 1) all k files (workAfter i (files i) work) (set kinds i (readIn i (files i) work .kind)) (set places i (readIn i (files i) work .place)) (set records i (readIn i (files i) work .records))
       read-turn room lk lp lr =
           let long : roomStart 20 ≤ length work = rw room-end room in
           let is : readIn i (files i) work ≡ readOf i (files i) .read = read-in i (files i) work few long in
@@ -185,38 +187,34 @@ unfolding newMark isTouched changedBoard
 part k files board = refl
 
 -- ---- how the calls end
-module _ (s : List ℕ) (refusal : ℕ) (is : refusal ≡ bundleFault 20 s) where
-  pub judge-refused : (refusal ≡ 0 → ⊥) → (board : Board) → board ≡ freshBoard → verdict refusal 0 board ≡ judgement s
-  unfolding judgement
-  judge-refused n board e = rw (e, ← is, ne-eqb refusal 0 n)
+module _ (refusal length : ℕ) (judged handed : Board) where
+  pub ends-refused : (refusal ≡ 0 → ⊥) → verdict refusal 0 handed ≡ ended refusal length judged handed
+  unfolding ended
+  ends-refused n = rw (ne-eqb refusal 0 n)
 
-  pub judge-whole : refusal ≡ 0 → (x : File) (fresh board : Board) → board ≡ boardOf (newMark true 20 (filesAfter s 20 x) fresh) → verdict 0 (length s) board ≡ judgement s
-  unfolding judgement
-  judge-whole z x fresh board e = rw (e, full s x fresh, ← is, eq-eqb refusal 0 z)
+  pub ends-judged : refusal ≡ 0 → (last : Board) → last ≡ judged → verdict 0 length last ≡ ended refusal length judged handed
+  unfolding ended
+  ends-judged z last e = rw (e, eq-eqb refusal 0 z)
 
-module _ (s : List ℕ) (k : ℕ) (f : File) (board : Board) (refusal : ℕ) where
-  pub answer-refused : (refusal ≡ 0 → ⊥) → verdict refusal 0 board ≡ answered refusal s k f board
-  unfolding answered
-  answer-refused n = rw (ne-eqb refusal 0 n)
+-- a bundle as it stands
+pub judge-ends : (s : List ℕ) (made : Made) → (made .refusal ≡ bundleFault 20 s) × (made .length ≡ length s) → (fresh : Board) → fresh ≡ freshBoard → (x : File) (last : Verdict) → last ≡ ended (made .refusal) (made .length) (boardOf (newMark true 20 (filesAfter s 20 x) fresh)) fresh → last ≡ judgement s
+unfolding judgement ended
+judge-ends s made are fresh e x last is = is ∙ rw (are .0, are .1, full s x fresh, e)
 
-  pub answer-whole : refusal ≡ 0 → (made : Made) → made ≡ changeOf refusal (bundleLength 20 (filesAfter s k f)) → (last : Board) → last ≡ boardOf (newMark false k (filesAfter s k f) board) → verdict 0 (made .length) last ≡ answered refusal s k f board
-  unfolding answered accepted changeOf
-  answer-whole z made is last e = rw (is, e, part k (filesAfter s k f) board, eq-eqb refusal 0 z)
+-- a change, from what was tried or made
+module _ (s : List ℕ) (k : ℕ) (f : File) (board : Board) (made : Made) (last : Verdict) (is : last ≡ ended (made .refusal) (made .length) (boardOf (newMark false k (filesAfter s k f) board)) board) where
+  change-ends : (refusal : ℕ) → made ≡ changeOf refusal (bundleLength 20 (filesAfter s k f)) → last ≡ answered refusal s k f board
+  unfolding changeOf ended answered accepted
+  change-ends refusal e = is ∙ rw (e, part k (filesAfter s k f) board) (go (eqb refusal 0) _ _ _)
+    where
+      go : (t : Bool) (n : ℕ) (b : Board) (v : Verdict) → cond t (verdict 0 (cond t n 0) b) v ≡ cond t (verdict 0 n b) v
+      go true n b v = refl
+      go false n b v = refl
 
--- what was tried or made carries its refusal and the new bundle's length
-pub tried-again : (s : List ℕ) (k : ℕ) (f : File) (made : Made) → made ≡ triedBundle 20 s k f → made ≡ changeOf (made .refusal) (bundleLength 20 (filesAfter s k f))
-unfolding triedBundle changeOf
-tried-again s k f made e = rw e
+  pub try-ends : made ≡ triedBundle 20 s k f → last ≡ tried s k f board
+  unfolding tried triedBundle
+  try-ends e = change-ends (tryFault 20 s k f) e
 
-pub made-again : (s : List ℕ) (k : ℕ) (f : File) (room : ℕ) (made : Made) → made ≡ madeBundle 20 s k f room → made ≡ changeOf (made .refusal) (bundleLength 20 (filesAfter s k f))
-unfolding madeBundle changeOf
-made-again s k f room made e = rw e
-
-module _ (s : List ℕ) (k : ℕ) (f : File) (board : Board) (made : Made) (last : Verdict) (is : last ≡ answered (made .refusal) s k f board) where
-  pub tried-answer : made ≡ triedBundle 20 s k f → last ≡ tried s k f board
-  unfolding tried triedBundle changeOf
-  tried-answer e = is ∙ rw e
-
-  pub made-answer : (room : ℕ) → made ≡ madeBundle 20 s k f room → last ≡ changeMade s k f board room
-  unfolding changeMade madeBundle changeOf
-  made-answer room e = is ∙ rw e
+  pub make-ends : (room : ℕ) → made ≡ madeBundle 20 s k f room → last ≡ changeMade s k f board room
+  unfolding changeMade madeBundle
+  make-ends room e = change-ends (makeFault 20 s k f room) e

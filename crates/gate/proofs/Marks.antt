@@ -18,7 +18,9 @@ use Rattle.board.specs.Board.{listOf, boardFrom, boardOf}
 use Rattle.board.specs.declared.Board.{Board}
 use Rattle.board.proofs.Laws.{list-start, list-ends}
 use Rattle.gate.specs.Again.{isTouched, isNeeded, newMark, ReadTo}
+use Rattle.gate.specs.Lent.{workspace, workRead}
 use Rattle.gate.proofs.Laws.{read-none, read-skip, read-turn, kind-in, place-in, put-judged, put-kept}
+use Rattle.gate.proofs.Lent.{work-skips, work-goes-on}
 
 -- ---- what the rows that were handed over say of a mark
 pub touched-by : (all : Bool) (k m : ℕ) {rows : List ℕ} → rows ≡ ruleRows → {t b : Bool} → t ≡ isTouched rows all k m → t ≡ b → isTouched ruleRows all k m ≡ b
@@ -36,42 +38,52 @@ module _ (f : ℕ) (file : File) (there : Bool) (bytes : List ℕ) (there-is : t
   one-read kinds places records =
       (last-is ∙ ap (λ x. workAfter f x work) file-is, (ap (λ x. set kinds f (x .kind)) same-read, (ap (λ x. set places f (x .place)) same-read, ap (λ x. set records f (x .records)) same-read)))
 
--- ---- files read one after the other: what has been read, and that no list has another length
-pub record Reading (n : ℕ) (all : Bool) (k : ℕ) (files : ℕ → File) (long : ℕ) (work kinds places records : List ℕ) : Type 0 where
+-- ---- files read one after the other: what has been read, what became of the lent list, and that no list has another length
+pub record Reading (n : ℕ) (all : Bool) (k : ℕ) (files : ℕ → File) (lent work kinds places records : List ℕ) : Type 0 where
   pub read : ReadTo n all k files work kinds places records
-  pub work-long : length work ≡ long
+  pub work-is : work ≡ workRead n all k files lent
+  pub work-long : length work ≡ length lent
   pub kinds-long : length kinds ≡ 20
   pub places-long : length places ≡ 20
   pub records-long : length records ≡ 20
 
+-- whether a file is needed, by the rows that were handed over
+needed-by-rows : (all : Bool) (k i : ℕ) {rows : List ℕ} → rows ≡ ruleRows → {t b : Bool} → t ≡ isNeeded rows all k i → t ≡ b → isNeeded ruleRows all k i ≡ b
+needed-by-rows all k i rows-are t-is e = ap (λ rows. isNeeded rows all k i) (sym rows-are) ∙ sym t-is ∙ e
+
 module _ (all : Bool) (k : ℕ) (files : ℕ → File) where
-  pub reading-starts : (work kinds places records : List ℕ) → length kinds ≡ 20 → length places ≡ 20 → length records ≡ 20 → Reading 0 all k files (length work) work kinds places records
+  pub reading-starts : (work kinds places records : List ℕ) → length kinds ≡ 20 → length places ≡ 20 → length records ≡ 20 → Reading 0 all k files work work kinds places records
+  unfolding workRead
   reading-starts work kinds places records lk lp lr =
-      record { read = read-none all k files work kinds places records; work-long = refl; kinds-long = lk; places-long = lp; records-long = lr }
+      record { read = read-none all k files work kinds places records; work-is = refl; work-long = refl; kinds-long = lk; places-long = lp; records-long = lr }
 
-  module _ {long i : ℕ} {work kinds places records : List ℕ} (so-far : Reading i all k files long work kinds places records) where
-    pub reading-skips : {rows : List ℕ} → rows ≡ ruleRows → {t : Bool} → t ≡ isNeeded rows all k i → t ≡ false → Reading (i + 1) all k files long work kinds places records
-    reading-skips rows-are t-is e =
-        record {
-          read = read-skip all k files work kinds places records i (so-far .read) (ap (λ rows. isNeeded rows all k i) (sym rows-are) ∙ sym t-is ∙ e);
-          work-long = so-far .work-long;
-          kinds-long = so-far .kinds-long;
-          places-long = so-far .places-long;
-          records-long = so-far .records-long;
-        }
+  module _ {i : ℕ} {lent work kinds places records : List ℕ} (so-far : Reading i all k files lent work kinds places records) where
+    module _ {rows : List ℕ} (rows-are : rows ≡ ruleRows) {t : Bool} (t-is : t ≡ isNeeded rows all k i) where
+      pub reading-skips : t ≡ false → Reading (i + 1) all k files lent work kinds places records
+      reading-skips e =
+          let none = needed-by-rows all k i rows-are t-is e in
+          record {
+            read = read-skip all k files work kinds places records i (so-far .read) none;
+            work-is = so-far .work-is ∙ sym (work-skips all k files lent i none);
+            work-long = so-far .work-long;
+            kinds-long = so-far .kinds-long;
+            places-long = so-far .places-long;
+            records-long = so-far .records-long;
+          }
 
-    pub reading-goes-on : i < 20 → 794702 ≤ long → {last lasts-kinds lasts-places lasts-records : List ℕ} → (last ≡ workAfter i (files i) work) × ((lasts-kinds ≡ set kinds i (readIn i (files i) work .kind)) × ((lasts-places ≡ set places i (readIn i (files i) work .place)) × (lasts-records ≡ set records i (readIn i (files i) work .records)))) → length last ≡ length work → Reading (i + 1) all k files long last lasts-kinds lasts-places lasts-records
-    reading-goes-on few room are kept =
-        record {
-          read = rw (are .0, are .1 .0, are .1 .1 .0, are .1 .1 .1) (read-turn all k files work kinds places records i (so-far .read) few (omega (arith, so-far .work-long)) (so-far .kinds-long) (so-far .places-long) (so-far .records-long));
-          work-long = kept ∙ so-far .work-long;
-          kinds-long = rw (are .1 .0) (length-set kinds i _ ∙ so-far .kinds-long);
-          places-long = rw (are .1 .1 .0) (length-set places i _ ∙ so-far .places-long);
-          records-long = rw (are .1 .1 .1) (length-set records i _ ∙ so-far .records-long);
-        }
+      pub reading-goes-on : t ≡ true → i < 20 → workspace ≤ length lent → {last lasts-kinds lasts-places lasts-records : List ℕ} → (last ≡ workAfter i (files i) work) × ((lasts-kinds ≡ set kinds i (readIn i (files i) work .kind)) × ((lasts-places ≡ set places i (readIn i (files i) work .place)) × (lasts-records ≡ set records i (readIn i (files i) work .records)))) → length last ≡ length work → Reading (i + 1) all k files lent last lasts-kinds lasts-places lasts-records
+      reading-goes-on e few room are kept =
+          record {
+            read = rw (are .0, are .1 .0, are .1 .1 .0, are .1 .1 .1) (read-turn all k files work kinds places records i (so-far .read) few (omega (arith, so-far .work-long)) (so-far .kinds-long) (so-far .places-long) (so-far .records-long));
+            work-is = are .0 ∙ ap (workAfter i (files i)) (so-far .work-is) ∙ sym (work-goes-on all k files lent i (needed-by-rows all k i rows-are t-is e));
+            work-long = kept ∙ so-far .work-long;
+            kinds-long = rw (are .1 .0) (length-set kinds i _ ∙ so-far .kinds-long);
+            places-long = rw (are .1 .1 .0) (length-set places i _ ∙ so-far .places-long);
+            records-long = rw (are .1 .1 .1) (length-set records i _ ∙ so-far .records-long);
+          }
 
-    pub reading-ends : i ≡ 20 → ReadTo 20 all k files work kinds places records
-    reading-ends e = rw e at (so-far .read)
+    pub reading-ends : i ≡ 20 → ReadTo 20 all k files work kinds places records × (work ≡ workRead 20 all k files lent)
+    reading-ends e = (rw e at (so-far .read), rw e at (so-far .work-is))
 
 -- ---- marks put over those of a board, the first m of them
 pub record Putting (all : Bool) (k : ℕ) (files : ℕ → File) (old-kinds old-places : List ℕ) (m : ℕ) (kinds places : List ℕ) : Type 0 where

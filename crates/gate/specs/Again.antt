@@ -5,6 +5,7 @@ use mathlib.Core.Path.{_≡_}
 use mathlib.Core.Bool.{Bool, true, false, cond, _&&_, _||_}
 use mathlib.Core.List.{List}
 use lib.ListN.{getD}
+use lib.Dec.{eqb}
 use Rattle.bundle_bytes.specs.Files.{File}
 use Rattle.rule_rows.specs.Rules.{ruleRows, readsFile}
 use Rattle.rules.specs.declared.Mark.{Mark}
@@ -12,6 +13,8 @@ use Rattle.marks.specs.Work.{cellsIn, readOf}
 use Rattle.marks.specs.Marks.{markAt}
 use Rattle.board.specs.Board.{markIn}
 use Rattle.board.specs.declared.Board.{Board}
+use Rattle.gate.specs.declared.Verdict.{Verdict}
+use Rattle.gate.specs.Gate.{verdict}
 
 -- every mark of a full judgement; after a change of file k those that read it
 unfoldable pub isTouched : List ℕ → Bool → ℕ → ℕ → Bool
@@ -29,6 +32,10 @@ isNeeded rows all k file = neededFrom rows all k file 81 0
 -- mark m of the board that a call hands back
 unfoldable pub newMark : Bool → ℕ → (ℕ → File) → Board → ℕ → Mark
 newMark all k files board m = cond (isTouched ruleRows all k m) (markAt m files) (markIn board m)
+
+-- a call whose refusal and length are known ends with the board it judged; a refused one with the board it was handed
+unfoldable pub ended : ℕ → ℕ → Board → Board → Verdict
+ended refusal length judged handed = cond (eqb refusal 0) (verdict 0 length judged) (verdict refusal 0 handed)
 
 -- the needed ones of the first n files have been read: their cells, the kinds and places of their marks, their records
 pub record ReadTo (n : ℕ) (all : Bool) (k : ℕ) (files : ℕ → File) (work kinds places records : List ℕ) : Type 0 where

@@ -1,3 +1,4 @@
 pub mod Gate
 pub mod Again
 pub mod Sequence
+pub mod Lent

@@ -1,18 +1,20 @@
-// The three calls: judge a bundle in full, try a change, make it.
+// The three calls: judge a bundle in full, try a change, make it; each in memory of its own, and in a
+// workspace that the caller lends.
 ghost use mathlib.Core.Path.{_≡_};
-ghost use mathlib.Core.Bool.{Bool, true, _&&_};
+ghost use mathlib.Core.Bool.{Bool, true, false, _&&_};
 ghost use Prim.Native.Nat.{_≤_, _<_};
 ghost use lib.ListN.{length, set};
+ghost use lib.Dec.{ltb};
 ghost use Rattle.bundle_bytes.specs.Files.{newFile};
-ghost use Rattle.bundle_layout.specs.Bundle.{bundleLength};
+ghost use Rattle.bundle_layout.specs.Bundle.{bundleFault, fileAt};
 ghost use Rattle.bundle_layout.specs.Change.{filesAfter, output};
-ghost use Rattle.bundle.specs.Answers.{changeOf};
 ghost use Rattle.rule_rows.specs.Rules.{ruleRows, readsFile};
 ghost use Rattle.marks.specs.Work.{readIn, workAfter};
 ghost use Rattle.marks.specs.Marks.{markAt};
 ghost use Rattle.board.specs.Board.{listOf, boardFrom, boardOf};
-ghost use Rattle.gate.specs.Gate.{judgement, tried, changeMade, answered};
-ghost use Rattle.gate.specs.Again.{isTouched, isNeeded, newMark, ReadTo};
+ghost use Rattle.gate.specs.Gate.{judgement, tried, changeMade};
+ghost use Rattle.gate.specs.Again.{isTouched, isNeeded, newMark, ended, ReadTo};
+ghost use Rattle.gate.specs.Lent.{judgedIn, triedIn, madeIn, outputIn, workspace, workRead, workLeft};
 use board::Board;
 use board::fresh;
 use bundle::Made;
@@ -110,8 +112,9 @@ fn read_needed<'a>(
     places: &mut [usize],
     records: &mut [usize],
 )
-    requires { ⌜ (now rules ≡ ruleRows) × (794702 ≤ length (now work)) × (length (now kinds) ≡ 20) × (length (now places) ≡ 20) × (length (now records) ≡ 20) ⌝ }
+    requires { ⌜ (now rules ≡ ruleRows) × (workspace ≤ length (now work)) × (length (now kinds) ≡ 20) × (length (now places) ≡ 20) × (length (now records) ≡ 20) ⌝ }
     ensures { λ _. ⌜ ReadTo 20 all k (filesAfter (now (s .entry)) k (newFile present (now (new .entry)))) (now (work .exit)) (now (kinds .exit)) (now (places .exit)) (now (records .exit)) ⌝ }
+    ensures { λ _. ⌜ now (work .exit) ≡ workRead 20 all k (filesAfter (now (s .entry)) k (newFile present (now (new .entry)))) (now (work .entry)) ⌝ }
 {
     let mut f = 0;
     while f < 20 {
@@ -217,8 +220,9 @@ fn judge_marks<'a>(
     work: &mut [u32],
     board: Board,
 ) -> Board
-    requires { ⌜ 794702 ≤ length (now work) ⌝ }
+    requires { ⌜ workspace ≤ length (now work) ⌝ }
     ensures { λ r. ⌜ r ≡ boardOf (newMark all k (filesAfter (now (s .entry)) k (newFile present (now (new .entry)))) board) ⌝ }
+    ensures { λ _. ⌜ now (work .exit) ≡ workRead 20 all k (filesAfter (now (s .entry)) k (newFile present (now (new .entry)))) (now (work .entry)) ⌝ }
 {
     let rules = rule_rows();
     let mut file_kinds = [0u32; 20];
@@ -255,38 +259,28 @@ fn judge_marks<'a>(
     Board { kinds, places }
 }
 
-// Judges a bundle in full.
-pub fn judge(bundle: &[u8]) -> Verdict
-    ensures { λ r. ⌜ r ≡ judgement (now (bundle .entry)) ⌝ }
+// Whether a lent workspace is too short for the cells of 20 files.
+fn is_short(work: &[u32]) -> bool
+    ensures { λ r. ⌜ r ≡ ltb (length (now (work .entry))) workspace ⌝ }
 {
-    let refusal = bundle_fault(bundle, 20);
-    if refusal != 0 {
-        return Verdict {
-            refusal,
-            length: 0,
-            board: fresh(),
-        };
-    }
-    let mut work = [0u32; 794702];
-    let board = judge_marks(bundle, 20, false, &bundle[..0], true, &mut work, fresh());
-    Verdict {
-        refusal: 0,
-        length: bundle.len(),
-        board,
-    }
+    work.len() < 794702
 }
 
-// What a change answers that was tried or made with this outcome.
-fn answer<'a>(
+// How a call ends whose refusal and length are known: refused, or with the touched marks judged in this
+// workspace.
+fn answer_in<'a>(
     bundle: &'a [u8],
     board: Board,
     k: usize,
     present: bool,
     new: &'a [u8],
+    all: bool,
     made: Made,
+    work: &mut [u32],
 ) -> Verdict
-    requires { ⌜ made ≡ changeOf (made .refusal) (bundleLength 20 (filesAfter (now bundle) k (newFile present (now new)))) ⌝ }
-    ensures { λ r. ⌜ r ≡ answered (made .refusal) (now (bundle .entry)) k (newFile present (now (new .entry))) board ⌝ }
+    requires { ⌜ workspace ≤ length (now work) ⌝ }
+    ensures { λ r. ⌜ r ≡ ended (made .refusal) (made .length) (boardOf (newMark all k (filesAfter (now (bundle .entry)) k (newFile present (now (new .entry)))) board)) board ⌝ }
+    ensures { λ r. ⌜ now (work .exit) ≡ workLeft (r .refusal) all k (filesAfter (now (bundle .entry)) k (newFile present (now (new .entry)))) (now (work .entry)) ⌝ }
 {
     let refusal = made.refusal;
     let length = made.length;
@@ -297,13 +291,71 @@ fn answer<'a>(
             board,
         };
     }
-    let mut work = [0u32; 794702];
-    let board = judge_marks(bundle, k, present, new, false, &mut work, board);
+    let board = judge_marks(bundle, k, present, new, all, work, board);
     Verdict {
         refusal: 0,
         length,
         board,
     }
+}
+
+// The same in a workspace of its own, which a refused call never clears.
+fn answer<'a>(
+    bundle: &'a [u8],
+    board: Board,
+    k: usize,
+    present: bool,
+    new: &'a [u8],
+    all: bool,
+    made: Made,
+) -> Verdict
+    ensures { λ r. ⌜ r ≡ ended (made .refusal) (made .length) (boardOf (newMark all k (filesAfter (now (bundle .entry)) k (newFile present (now (new .entry)))) board)) board ⌝ }
+{
+    let refusal = made.refusal;
+    if refusal != 0 {
+        return Verdict {
+            refusal,
+            length: 0,
+            board,
+        };
+    }
+    let mut work = [0u32; 794702];
+    answer_in(bundle, board, k, present, new, all, made, &mut work)
+}
+
+// The refusal or 0, and the length, of a bundle that is judged as it stands.
+fn standing(bundle: &[u8]) -> Made
+    ensures { λ r. ⌜ (r .refusal ≡ bundleFault 20 (now (bundle .entry))) × (r .length ≡ length (now (bundle .entry))) ⌝ }
+{
+    Made {
+        refusal: bundle_fault(bundle, 20),
+        length: bundle.len(),
+    }
+}
+
+// Judges a bundle in full.
+pub fn judge(bundle: &[u8]) -> Verdict
+    ensures { λ r. ⌜ r ≡ judgement (now (bundle .entry)) ⌝ }
+{
+    let made = standing(bundle);
+    answer(bundle, fresh(), 20, false, &bundle[..0], true, made)
+}
+
+// Judges a bundle in full in a lent workspace, whatever that holds. One of fewer than 794,702 numbers
+// is refused as 14, before all else.
+pub fn judge_in(bundle: &[u8], work: &mut [u32]) -> Verdict
+    ensures { λ r. ⌜ r ≡ judgedIn (now (bundle .entry)) (length (now (work .entry))) ⌝ }
+    ensures { λ r. ⌜ now (work .exit) ≡ workLeft (r .refusal) true 20 (fileAt (now (bundle .entry))) (now (work .entry)) ⌝ }
+{
+    if is_short(work) {
+        return Verdict {
+            refusal: 14,
+            length: 0,
+            board: fresh(),
+        };
+    }
+    let made = standing(bundle);
+    answer_in(bundle, fresh(), 20, false, &bundle[..0], true, made, work)
 }
 
 // Tries a change of file k, to new bytes or, where `present` is false, to none: what making it into an
@@ -318,7 +370,30 @@ pub fn try_change<'a>(
     ensures { λ r. ⌜ r ≡ tried (now (bundle .entry)) k (newFile present (now (new .entry))) board ⌝ }
 {
     let made = try_bundle(bundle, 20, k, present, new);
-    answer(bundle, board, k, present, new, made)
+    answer(bundle, board, k, present, new, false, made)
+}
+
+// Tries a change in a lent workspace, as `judge_in` has it.
+pub fn try_in<'a>(
+    bundle: &'a [u8],
+    board: Board,
+    k: usize,
+    present: bool,
+    new: &'a [u8],
+    work: &mut [u32],
+) -> Verdict
+    ensures { λ r. ⌜ r ≡ triedIn (now (bundle .entry)) k (newFile present (now (new .entry))) board (length (now (work .entry))) ⌝ }
+    ensures { λ r. ⌜ now (work .exit) ≡ workLeft (r .refusal) false k (filesAfter (now (bundle .entry)) k (newFile present (now (new .entry)))) (now (work .entry)) ⌝ }
+{
+    if is_short(work) {
+        return Verdict {
+            refusal: 14,
+            length: 0,
+            board,
+        };
+    }
+    let made = try_bundle(bundle, 20, k, present, new);
+    answer_in(bundle, board, k, present, new, false, made, work)
 }
 
 // Makes a change: the new bundle goes to the front of `out`, unless it is refused.
@@ -334,5 +409,31 @@ pub fn make_change<'a>(
     ensures { λ _. ⌜ now (out .exit) ≡ output 20 (now (bundle .entry)) k (newFile present (now (new .entry))) (now (out .entry)) ⌝ }
 {
     let made = make_bundle(bundle, 20, k, present, new, out);
-    answer(bundle, board, k, present, new, made)
+    answer(bundle, board, k, present, new, false, made)
+}
+
+// Makes a change in a lent workspace, as `judge_in` has it: where that is too short, nothing is
+// written.
+pub fn make_in<'a>(
+    bundle: &'a [u8],
+    board: Board,
+    k: usize,
+    present: bool,
+    new: &'a [u8],
+    out: &mut [u8],
+    work: &mut [u32],
+) -> Verdict
+    ensures { λ r. ⌜ r ≡ madeIn (now (bundle .entry)) k (newFile present (now (new .entry))) board (length (now (out .entry))) (length (now (work .entry))) ⌝ }
+    ensures { λ _. ⌜ now (out .exit) ≡ outputIn (now (bundle .entry)) k (newFile present (now (new .entry))) (now (out .entry)) (length (now (work .entry))) ⌝ }
+    ensures { λ r. ⌜ now (work .exit) ≡ workLeft (r .refusal) false k (filesAfter (now (bundle .entry)) k (newFile present (now (new .entry)))) (now (work .entry)) ⌝ }
+{
+    if is_short(work) {
+        return Verdict {
+            refusal: 14,
+            length: 0,
+            board,
+        };
+    }
+    let made = make_bundle(bundle, 20, k, present, new, out);
+    answer_in(bundle, board, k, present, new, false, made, work)
 }

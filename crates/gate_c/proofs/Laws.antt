@@ -17,7 +17,7 @@ use Rattle.bundle_layout.specs.Bundle.{headerSize, laidOut, bundleFault, lookup
 use Rattle.board.specs.Board.{boardFrom}
 use Rattle.board.specs.declared.Board.{Board}
 use Rattle.gate.specs.declared.Verdict.{Verdict}
-use Rattle.gate.specs.Gate.{tried, changeMade}
+use Rattle.gate.specs.Lent.{workLeft}
 use Rattle.report.specs.Report.{reportOf}
 use Rattle.gate_c.specs.Calls.{callFault, makeCallFault, Called, called, textCalled}
 
@@ -63,10 +63,10 @@ module _ (kinds places : List ℕ) (present : ℕ) where
       by false e z = absurd (omega arith)
 
   -- without one both lists are of 81
-  pub lists-fit : callFault kinds places present ≡ 0 → (length kinds ≡ 81) × (length places ≡ 81)
+  pub lists-fit : (f : ℕ) → f ≡ callFault kinds places present → f ≡ 0 → (length kinds ≡ 81) × (length places ≡ 81)
   unfolding callFault
-  lists-fit q =
-      let both = if-81 (length kinds) (cond (eqb (length places) 81) (cond (ltb 1 present) 101 0) 100) q in
+  lists-fit f f-is none =
+      let both = if-81 (length kinds) (cond (eqb (length places) 81) (cond (ltb 1 present) 101 0) 100) (sym f-is ∙ none) in
       (both .0, if-81 (length places) (cond (ltb 1 present) 101 0) (both .1) .0)
 
 -- ---- what a call answers with a fault of its own
@@ -86,29 +86,30 @@ module _ (fault : ℕ) (f : ℕ) (f-is : f ≡ fault) (none : f ≡ 0) where
   is-none : eqb fault 0 ≡ true
   is-none = eq-eqb fault 0 (sym f-is ∙ none)
 
-  pub called-well : (verdict : Verdict) (kinds places : List ℕ) (v : Verdict) → v ≡ verdict → (ks ps : List ℕ) → (ks ≡ v .board .kinds) × (ps ≡ v .board .places) → (v .refusal ≡ called fault verdict kinds places .number) × ((ks ≡ called fault verdict kinds places .kinds) × (ps ≡ called fault verdict kinds places .places))
+  pub called-well : (verdict : Verdict) (kinds places : List ℕ) (v : Verdict) → v ≡ verdict → (r : ℕ) (ks ps : List ℕ) → (r ≡ v .refusal) × ((ks ≡ v .board .kinds) × (ps ≡ v .board .places)) → (r ≡ called fault verdict kinds places .number) × ((ks ≡ called fault verdict kinds places .kinds) × (ps ≡ called fault verdict kinds places .places))
   unfolding called
-  called-well verdict kinds places v v-is ks ps e =
-      (rw is-none (ap (λ x. x .refusal) v-is), (rw is-none (e .0 ∙ ap (λ x. x .board .kinds) v-is), rw is-none (e .1 ∙ ap (λ x. x .board .places) v-is)))
+  called-well verdict kinds places v v-is r ks ps e =
+      (rw is-none (e .0 ∙ ap (λ x. x .refusal) v-is), (rw is-none (e .1 .0 ∙ ap (λ x. x .board .kinds) v-is), rw is-none (e .1 .1 ∙ ap (λ x. x .board .places) v-is)))
 
   pub put-in : (x y z : List ℕ) → z ≡ x → z ≡ cond (eqb fault 0) x y
   put-in x y z e = rw is-none e
 
--- ---- a call that makes a change
-pub make-fit : (kinds places : List ℕ) (present : ℕ) (size : List ℕ) → makeCallFault kinds places present size ≡ 0 → (length size ≡ 1) × (callFault kinds places present ≡ 0)
+-- ---- a call that makes a change has a list of 1 for the length too
+pub make-fit : (kinds places : List ℕ) (present : ℕ) (size : List ℕ) (f : ℕ) → f ≡ makeCallFault kinds places present size → f ≡ 0 → (length size ≡ 1) × ((length kinds ≡ 81) × (length places ≡ 81))
 unfolding makeCallFault
-make-fit kinds places present size q = by (eqb (length size) 1) refl q
+make-fit kinds places present size f f-is none = by (eqb (length size) 1) refl (sym f-is ∙ none)
   where
-    by : (t : Bool) → eqb (length size) 1 ≡ t → cond t (callFault kinds places present) 100 ≡ 0 → (length size ≡ 1) × (callFault kinds places present ≡ 0)
-    by true e z = (eqb-true (length size) 1 e, z)
+    by : (t : Bool) → eqb (length size) 1 ≡ t → cond t (callFault kinds places present) 100 ≡ 0 → (length size ≡ 1) × ((length kinds ≡ 81) × (length places ≡ 81))
+    by true e z = (eqb-true (length size) 1 e, lists-fit kinds places present (callFault kinds places present) refl z)
     by false e z = absurd (omega arith)
 
--- ---- verdicts on a board that was copied
-pub tried-on : (v : Verdict) (s : List ℕ) (k : ℕ) (f : File) (b copy : Board) → v ≡ tried s k f copy → copy ≡ b → v ≡ tried s k f b
-tried-on v s k f b copy e q = e ∙ ap (λ x. tried s k f x) q
+-- ---- a verdict on a board that was copied
+pub verdict-on : (of : Board → Verdict) (v : Verdict) (b copy : Board) → v ≡ of copy → copy ≡ b → v ≡ of b
+verdict-on of v b copy e q = e ∙ ap of q
 
-pub made-on : (v : Verdict) (s : List ℕ) (k : ℕ) (f : File) (b copy : Board) (room : ℕ) → v ≡ changeMade s k f copy room → copy ≡ b → v ≡ changeMade s k f b room
-made-on v s k f b copy room e q = e ∙ ap (λ x. changeMade s k f x room) q
+-- ---- what is left in the workspace goes by the number that is answered
+pub work-answered : (all : Bool) (k : ℕ) (files : ℕ → File) (lent last : List ℕ) (refusal r : ℕ) → last ≡ workLeft refusal all k files lent → r ≡ refusal → last ≡ workLeft r all k files lent
+work-answered all k files lent last refusal r e q = rw q e
 
 -- ---- the text
 module _ (refusal : ℕ) (kinds places out : List ℕ) (f : ℕ) (f-is : f ≡ callFault kinds places 0) where

@@ -1,14 +1,16 @@
--- What the calls answer that other programs make: the three of document 01, a file asked for by number, and the judging
--- program's text. A board is handed over as two lists of 81.
+-- What the calls answer that other programs make: the three of document 01, in memory of their own or in a lent workspace,
+-- a file asked for by number, and the judging program's text. A board is handed over as two lists of 81.
 use Prim.Native.Nat.{ℕ, _+_}
 use mathlib.Core.Bool.{cond}
 use mathlib.Core.List.{List, []}
 use lib.ListN.{length}
 use lib.Dec.{eqb, ltb, leb}
+use Rattle.bundle_bytes.specs.Files.{File, newFile}
 use Rattle.bundle_layout.specs.Bundle.{offsetAt, lookupFault}
 use Rattle.bundle.specs.declared.FileState.{FileState}
 use Rattle.bundle.specs.declared.FileState.the-variants.{Present, Omitted, Refused}
 use Rattle.board.specs.Board.{boardFrom}
+use Rattle.board.specs.declared.Board.{Board}
 use Rattle.gate.specs.declared.Verdict.{Verdict}
 use Rattle.report.specs.Report.{reportOf}
 
@@ -32,6 +34,23 @@ pub record Called : Type 0 where
 unfoldable pub called : ℕ → Verdict → List ℕ → List ℕ → Called
 called fault verdict kinds places =
     cond (eqb fault 0) (record { number = verdict .refusal; kinds = verdict .board .kinds; places = verdict .board .places }) (record { number = fault; kinds = kinds; places = places })
+
+-- a call that judges in full ends with this verdict
+abbrev pub judgeCalled : Verdict → List ℕ → List ℕ → Called
+judgeCalled verdict kinds places = called (callFault kinds places 0) verdict kinds places
+
+-- the new file of a change: these bytes where `present` is 1, none where it is 0
+abbrev pub handed : ℕ → List ℕ → File
+handed present bytes = newFile (eqb present 1) bytes
+
+-- a call with a change ends with the verdict on the new file and the board that it hands over
+abbrev pub tryCalled : (File → Board → Verdict) → List ℕ → List ℕ → ℕ → List ℕ → Called
+tryCalled verdictOn kinds places present bytes =
+    called (callFault kinds places present) (verdictOn (handed present bytes) (boardFrom kinds places)) kinds places
+
+abbrev pub makeCalled : (File → Board → Verdict) → List ℕ → List ℕ → ℕ → List ℕ → List ℕ → Called
+makeCalled verdictOn kinds places present bytes size =
+    called (makeCallFault kinds places present size) (verdictOn (handed present bytes) (boardFrom kinds places)) kinds places
 
 -- ---- The text
 -- none where a list is not of 81 or the output below 4,096 bytes

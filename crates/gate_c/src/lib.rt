@@ -1,25 +1,31 @@
 // The gate for programs in other languages: numbers and lent lists in, a number out. A call whose
-// lists have wrong lengths answers 100 and writes nothing.
+// lists have wrong lengths answers 100 and writes nothing. The calls that end in `_in` judge in the
+// lent workspace `work`, for callers whose stack is small: one that is too short is refused as 14,
+// and what any of them leaves in it may be lent again.
 ghost use mathlib.Core.Path.{_≡_};
-ghost use mathlib.Core.Bool.{cond};
+ghost use mathlib.Core.Bool.{true, false, cond};
 ghost use mathlib.Core.List.{_++_};
 ghost use lib.ListN.{length, drop, set};
 ghost use lib.Dec.{eqb};
-ghost use Rattle.bundle_bytes.specs.Files.{newFile};
-ghost use Rattle.bundle_layout.specs.Bundle.{partAsked};
-ghost use Rattle.bundle_layout.specs.Change.{output};
+ghost use Rattle.bundle_layout.specs.Bundle.{fileAt, partAsked};
+ghost use Rattle.bundle_layout.specs.Change.{filesAfter, output};
 ghost use Rattle.bundle.specs.Answers.{stateAsked};
 ghost use Rattle.board.specs.Board.{boardFrom};
 ghost use Rattle.gate.specs.Gate.{judgement, tried, changeMade};
-ghost use Rattle.gate_c.specs.Calls.{callFault, makeCallFault, called, textCalled, stateNumber, startAsked};
+ghost use Rattle.gate.specs.Lent.{judgedIn, triedIn, madeIn, outputIn, workLeft};
+ghost use Rattle.gate_c.specs.Calls.{callFault, makeCallFault, judgeCalled, handed, tryCalled, makeCalled, textCalled, stateNumber, startAsked};
 use board::Board;
 use bundle::file_part;
 use bundle::is_omitted;
 use bundle::lookup_fault;
 use bundle_bytes::word_at;
+use gate::Verdict;
 use gate::judge;
+use gate::judge_in;
 use gate::make_change;
+use gate::make_in;
 use gate::try_change;
+use gate::try_in;
 use report::report;
 
 // Copies a list of 81 over another.
@@ -45,7 +51,7 @@ fn copy_places(from: &[usize], to: &mut [usize])
     }
 }
 
-// A board of two lists, and the lists of a board.
+// The board that two lists hand over.
 fn board_of(kinds: &[u32], places: &[usize]) -> Board
     requires { ⌜ (length (now kinds) ≡ 81) × (length (now places) ≡ 81) ⌝ }
     ensures { λ r. ⌜ r ≡ boardFrom (now (kinds .entry)) (now (places .entry)) ⌝ }
@@ -60,15 +66,19 @@ fn board_of(kinds: &[u32], places: &[usize]) -> Board
     }
 }
 
-fn put_board(board: Board, kinds: &mut [u32], places: &mut [usize])
+// Hands a verdict over: its board goes to the two lists, and its refusal or 0 is answered.
+fn hand_over(verdict: Verdict, kinds: &mut [u32], places: &mut [usize]) -> u32
     requires { ⌜ (length (now kinds) ≡ 81) × (length (now places) ≡ 81) ⌝ }
-    ensures { λ _. ⌜ now (kinds .exit) ≡ board .kinds ⌝ }
-    ensures { λ _. ⌜ now (places .exit) ≡ board .places ⌝ }
+    ensures { λ r. ⌜ r ≡ verdict .refusal ⌝ }
+    ensures { λ _. ⌜ now (kinds .exit) ≡ verdict .board .kinds ⌝ }
+    ensures { λ _. ⌜ now (places .exit) ≡ verdict .board .places ⌝ }
 {
+    let board = verdict.board;
     let board_kinds = board.kinds;
     let board_places = board.places;
     copy_kinds(&board_kinds, kinds);
     copy_places(&board_places, places);
+    verdict.refusal
 }
 
 // What is wrong with a call's own lists and numbers, 100 or 101, or 0.
@@ -99,18 +109,37 @@ fn make_call_fault(kinds: &[u32], places: &[usize], present: u32, size: &[usize]
 // Judges a bundle in full: the refusal or 0; the board goes to the two lists.
 #[no_mangle]
 pub extern "C" fn knotsaddle_judge(bundle: &[u8], kinds: &mut [u32], places: &mut [usize]) -> u32
-    ensures { λ r. ⌜ r ≡ called (callFault (now (kinds .entry)) (now (places .entry)) 0) (judgement (now (bundle .entry))) (now (kinds .entry)) (now (places .entry)) .number ⌝ }
-    ensures { λ _. ⌜ now (kinds .exit) ≡ called (callFault (now (kinds .entry)) (now (places .entry)) 0) (judgement (now (bundle .entry))) (now (kinds .entry)) (now (places .entry)) .kinds ⌝ }
-    ensures { λ _. ⌜ now (places .exit) ≡ called (callFault (now (kinds .entry)) (now (places .entry)) 0) (judgement (now (bundle .entry))) (now (kinds .entry)) (now (places .entry)) .places ⌝ }
+    ensures { λ r. ⌜ r ≡ judgeCalled (judgement (now (bundle .entry))) (now (kinds .entry)) (now (places .entry)) .number ⌝ }
+    ensures { λ _. ⌜ now (kinds .exit) ≡ judgeCalled (judgement (now (bundle .entry))) (now (kinds .entry)) (now (places .entry)) .kinds ⌝ }
+    ensures { λ _. ⌜ now (places .exit) ≡ judgeCalled (judgement (now (bundle .entry))) (now (kinds .entry)) (now (places .entry)) .places ⌝ }
 {
     let fault = call_fault(kinds, places, 0);
     if fault != 0 {
         return fault;
     }
     let verdict = judge(bundle);
-    let refusal = verdict.refusal;
-    put_board(verdict.board, kinds, places);
-    refusal
+    hand_over(verdict, kinds, places)
+}
+
+// Judges a bundle in full in a lent workspace, whatever that holds.
+#[no_mangle]
+pub extern "C" fn knotsaddle_judge_in(
+    bundle: &[u8],
+    kinds: &mut [u32],
+    places: &mut [usize],
+    work: &mut [u32],
+) -> u32
+    ensures { λ r. ⌜ r ≡ judgeCalled (judgedIn (now (bundle .entry)) (length (now (work .entry)))) (now (kinds .entry)) (now (places .entry)) .number ⌝ }
+    ensures { λ _. ⌜ now (kinds .exit) ≡ judgeCalled (judgedIn (now (bundle .entry)) (length (now (work .entry)))) (now (kinds .entry)) (now (places .entry)) .kinds ⌝ }
+    ensures { λ _. ⌜ now (places .exit) ≡ judgeCalled (judgedIn (now (bundle .entry)) (length (now (work .entry)))) (now (kinds .entry)) (now (places .entry)) .places ⌝ }
+    ensures { λ r. ⌜ now (work .exit) ≡ workLeft r true 20 (fileAt (now (bundle .entry))) (now (work .entry)) ⌝ }
+{
+    let fault = call_fault(kinds, places, 0);
+    if fault != 0 {
+        return fault;
+    }
+    let verdict = judge_in(bundle, work);
+    hand_over(verdict, kinds, places)
 }
 
 // Tries a change of a file, to new bytes where `present` is 1 and to none where it is 0; the handed
@@ -124,9 +153,9 @@ pub extern "C" fn knotsaddle_try<'a>(
     present: u32,
     new_bytes: &'a [u8],
 ) -> u32
-    ensures { λ r. ⌜ r ≡ called (callFault (now (kinds .entry)) (now (places .entry)) present) (tried (now (bundle .entry)) file (newFile (eqb present 1) (now («new_bytes» .entry))) (boardFrom (now (kinds .entry)) (now (places .entry)))) (now (kinds .entry)) (now (places .entry)) .number ⌝ }
-    ensures { λ _. ⌜ now (kinds .exit) ≡ called (callFault (now (kinds .entry)) (now (places .entry)) present) (tried (now (bundle .entry)) file (newFile (eqb present 1) (now («new_bytes» .entry))) (boardFrom (now (kinds .entry)) (now (places .entry)))) (now (kinds .entry)) (now (places .entry)) .kinds ⌝ }
-    ensures { λ _. ⌜ now (places .exit) ≡ called (callFault (now (kinds .entry)) (now (places .entry)) present) (tried (now (bundle .entry)) file (newFile (eqb present 1) (now («new_bytes» .entry))) (boardFrom (now (kinds .entry)) (now (places .entry)))) (now (kinds .entry)) (now (places .entry)) .places ⌝ }
+    ensures { λ r. ⌜ r ≡ tryCalled (tried (now (bundle .entry)) file) (now (kinds .entry)) (now (places .entry)) present (now («new_bytes» .entry)) .number ⌝ }
+    ensures { λ _. ⌜ now (kinds .exit) ≡ tryCalled (tried (now (bundle .entry)) file) (now (kinds .entry)) (now (places .entry)) present (now («new_bytes» .entry)) .kinds ⌝ }
+    ensures { λ _. ⌜ now (places .exit) ≡ tryCalled (tried (now (bundle .entry)) file) (now (kinds .entry)) (now (places .entry)) present (now («new_bytes» .entry)) .places ⌝ }
 {
     let fault = call_fault(kinds, places, present);
     if fault != 0 {
@@ -134,9 +163,32 @@ pub extern "C" fn knotsaddle_try<'a>(
     }
     let board = board_of(kinds, places);
     let verdict = try_change(bundle, board, file, present == 1, new_bytes);
-    let refusal = verdict.refusal;
-    put_board(verdict.board, kinds, places);
-    refusal
+    hand_over(verdict, kinds, places)
+}
+
+// Tries a change, handed over as to `knotsaddle_try`, in a lent workspace.
+#[no_mangle]
+pub extern "C" fn knotsaddle_try_in<'a>(
+    bundle: &'a [u8],
+    kinds: &mut [u32],
+    places: &mut [usize],
+    file: usize,
+    present: u32,
+    new_bytes: &'a [u8],
+    work: &mut [u32],
+) -> u32
+    ensures { λ r. ⌜ r ≡ tryCalled (λ new board. triedIn (now (bundle .entry)) file new board (length (now (work .entry)))) (now (kinds .entry)) (now (places .entry)) present (now («new_bytes» .entry)) .number ⌝ }
+    ensures { λ _. ⌜ now (kinds .exit) ≡ tryCalled (λ new board. triedIn (now (bundle .entry)) file new board (length (now (work .entry)))) (now (kinds .entry)) (now (places .entry)) present (now («new_bytes» .entry)) .kinds ⌝ }
+    ensures { λ _. ⌜ now (places .exit) ≡ tryCalled (λ new board. triedIn (now (bundle .entry)) file new board (length (now (work .entry)))) (now (kinds .entry)) (now (places .entry)) present (now («new_bytes» .entry)) .places ⌝ }
+    ensures { λ r. ⌜ now (work .exit) ≡ workLeft r false file (filesAfter (now (bundle .entry)) file (handed present (now («new_bytes» .entry)))) (now (work .entry)) ⌝ }
+{
+    let fault = call_fault(kinds, places, present);
+    if fault != 0 {
+        return fault;
+    }
+    let board = board_of(kinds, places);
+    let verdict = try_in(bundle, board, file, present == 1, new_bytes, work);
+    hand_over(verdict, kinds, places)
 }
 
 // Makes a change, handed over as to `knotsaddle_try`: the new bundle goes to the front of `out`, its
@@ -152,11 +204,11 @@ pub extern "C" fn knotsaddle_make<'a>(
     out: &mut [u8],
     size: &mut [usize],
 ) -> u32
-    ensures { λ r. ⌜ r ≡ called (makeCallFault (now (kinds .entry)) (now (places .entry)) present (now (size .entry))) (changeMade (now (bundle .entry)) file (newFile (eqb present 1) (now («new_bytes» .entry))) (boardFrom (now (kinds .entry)) (now (places .entry))) (length (now (out .entry)))) (now (kinds .entry)) (now (places .entry)) .number ⌝ }
-    ensures { λ _. ⌜ now (kinds .exit) ≡ called (makeCallFault (now (kinds .entry)) (now (places .entry)) present (now (size .entry))) (changeMade (now (bundle .entry)) file (newFile (eqb present 1) (now («new_bytes» .entry))) (boardFrom (now (kinds .entry)) (now (places .entry))) (length (now (out .entry)))) (now (kinds .entry)) (now (places .entry)) .kinds ⌝ }
-    ensures { λ _. ⌜ now (places .exit) ≡ called (makeCallFault (now (kinds .entry)) (now (places .entry)) present (now (size .entry))) (changeMade (now (bundle .entry)) file (newFile (eqb present 1) (now («new_bytes» .entry))) (boardFrom (now (kinds .entry)) (now (places .entry))) (length (now (out .entry)))) (now (kinds .entry)) (now (places .entry)) .places ⌝ }
-    ensures { λ _. ⌜ now (out .exit) ≡ cond (eqb (makeCallFault (now (kinds .entry)) (now (places .entry)) present (now (size .entry))) 0) (output 20 (now (bundle .entry)) file (newFile (eqb present 1) (now («new_bytes» .entry))) (now (out .entry))) (now (out .entry)) ⌝ }
-    ensures { λ _. ⌜ now (size .exit) ≡ cond (eqb (makeCallFault (now (kinds .entry)) (now (places .entry)) present (now (size .entry))) 0) (set (now (size .entry)) 0 (changeMade (now (bundle .entry)) file (newFile (eqb present 1) (now («new_bytes» .entry))) (boardFrom (now (kinds .entry)) (now (places .entry))) (length (now (out .entry))) .length)) (now (size .entry)) ⌝ }
+    ensures { λ r. ⌜ r ≡ makeCalled (λ new board. changeMade (now (bundle .entry)) file new board (length (now (out .entry)))) (now (kinds .entry)) (now (places .entry)) present (now («new_bytes» .entry)) (now (size .entry)) .number ⌝ }
+    ensures { λ _. ⌜ now (kinds .exit) ≡ makeCalled (λ new board. changeMade (now (bundle .entry)) file new board (length (now (out .entry)))) (now (kinds .entry)) (now (places .entry)) present (now («new_bytes» .entry)) (now (size .entry)) .kinds ⌝ }
+    ensures { λ _. ⌜ now (places .exit) ≡ makeCalled (λ new board. changeMade (now (bundle .entry)) file new board (length (now (out .entry)))) (now (kinds .entry)) (now (places .entry)) present (now («new_bytes» .entry)) (now (size .entry)) .places ⌝ }
+    ensures { λ _. ⌜ now (out .exit) ≡ cond (eqb (makeCallFault (now (kinds .entry)) (now (places .entry)) present (now (size .entry))) 0) (output 20 (now (bundle .entry)) file (handed present (now («new_bytes» .entry))) (now (out .entry))) (now (out .entry)) ⌝ }
+    ensures { λ _. ⌜ now (size .exit) ≡ cond (eqb (makeCallFault (now (kinds .entry)) (now (places .entry)) present (now (size .entry))) 0) (set (now (size .entry)) 0 (changeMade (now (bundle .entry)) file (handed present (now («new_bytes» .entry))) (boardFrom (now (kinds .entry)) (now (places .entry))) (length (now (out .entry))) .length)) (now (size .entry)) ⌝ }
 {
     let fault = make_call_fault(kinds, places, present, size);
     if fault != 0 {
@@ -164,10 +216,38 @@ pub extern "C" fn knotsaddle_make<'a>(
     }
     let board = board_of(kinds, places);
     let verdict = make_change(bundle, board, file, present == 1, new_bytes, out);
-    let refusal = verdict.refusal;
     size[0] = verdict.length;
-    put_board(verdict.board, kinds, places);
-    refusal
+    hand_over(verdict, kinds, places)
+}
+
+// Makes a change, handed over as to `knotsaddle_make`, in a lent workspace.
+#[no_mangle]
+pub extern "C" fn knotsaddle_make_in<'a>(
+    bundle: &'a [u8],
+    kinds: &mut [u32],
+    places: &mut [usize],
+    file: usize,
+    present: u32,
+    new_bytes: &'a [u8],
+    out: &mut [u8],
+    size: &mut [usize],
+    work: &mut [u32],
+) -> u32
+    ensures { λ r. ⌜ r ≡ makeCalled (λ new board. madeIn (now (bundle .entry)) file new board (length (now (out .entry))) (length (now (work .entry)))) (now (kinds .entry)) (now (places .entry)) present (now («new_bytes» .entry)) (now (size .entry)) .number ⌝ }
+    ensures { λ _. ⌜ now (kinds .exit) ≡ makeCalled (λ new board. madeIn (now (bundle .entry)) file new board (length (now (out .entry))) (length (now (work .entry)))) (now (kinds .entry)) (now (places .entry)) present (now («new_bytes» .entry)) (now (size .entry)) .kinds ⌝ }
+    ensures { λ _. ⌜ now (places .exit) ≡ makeCalled (λ new board. madeIn (now (bundle .entry)) file new board (length (now (out .entry))) (length (now (work .entry)))) (now (kinds .entry)) (now (places .entry)) present (now («new_bytes» .entry)) (now (size .entry)) .places ⌝ }
+    ensures { λ _. ⌜ now (out .exit) ≡ cond (eqb (makeCallFault (now (kinds .entry)) (now (places .entry)) present (now (size .entry))) 0) (outputIn (now (bundle .entry)) file (handed present (now («new_bytes» .entry))) (now (out .entry)) (length (now (work .entry)))) (now (out .entry)) ⌝ }
+    ensures { λ _. ⌜ now (size .exit) ≡ cond (eqb (makeCallFault (now (kinds .entry)) (now (places .entry)) present (now (size .entry))) 0) (set (now (size .entry)) 0 (madeIn (now (bundle .entry)) file (handed present (now («new_bytes» .entry))) (boardFrom (now (kinds .entry)) (now (places .entry))) (length (now (out .entry))) (length (now (work .entry))) .length)) (now (size .entry)) ⌝ }
+    ensures { λ r. ⌜ now (work .exit) ≡ workLeft r false file (filesAfter (now (bundle .entry)) file (handed present (now («new_bytes» .entry)))) (now (work .entry)) ⌝ }
+{
+    let fault = make_call_fault(kinds, places, present, size);
+    if fault != 0 {
+        return fault;
+    }
+    let board = board_of(kinds, places);
+    let verdict = make_in(bundle, board, file, present == 1, new_bytes, out, work);
+    size[0] = verdict.length;
+    hand_over(verdict, kinds, places)
 }
 
 // Writes the text of a refusal, or with none that of a board, to the front of `out`, and answers its

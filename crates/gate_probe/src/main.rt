@@ -7,11 +7,13 @@
 //   2 make:   refusal, the new bundle's length, 81 pairs, the output, whose byte i was before
 //             the seed and 7 i together, its lowest eight bits
 //   3 lookup: 0 present, 1 omitted or 2 refused, refusal, length, the file
+//   4, 5, 6:  as 0, 1 and 2, in a lent workspace that holds other numbers than 0
 // The program ends where the input does, and at a case that is too long or asks nothing known.
 ghost use Prim.Native.Nat.{_≤_};
 ghost use mathlib.Core.Path.{_≡_};
 ghost use lib.ListN.{length};
 use board::Board;
+use board::fresh;
 use bundle::FileState;
 use bundle::file_part;
 use bundle::file_state;
@@ -19,8 +21,11 @@ use bundle_bytes::put_word;
 use bundle_bytes::word_at;
 use gate::Verdict;
 use gate::judge;
+use gate::judge_in;
 use gate::make_change;
+use gate::make_in;
 use gate::try_change;
+use gate::try_in;
 use libc::STDIN_FILENO;
 use libc::STDOUT_FILENO;
 use program_io::fill;
@@ -113,8 +118,66 @@ fn lay(out: &mut [u8], seed: usize) {
     }
 }
 
+// The three calls in this workspace.
+fn verdict_in<'a>(
+    call: u32,
+    bundle: &'a [u8],
+    board: Board,
+    k: usize,
+    present: bool,
+    new: &'a [u8],
+    out: &mut [u8],
+    work: &mut [u32],
+) -> Verdict {
+    if call == 0 {
+        return judge_in(bundle, work);
+    }
+    if call == 1 {
+        return try_in(bundle, board, k, present, new, work);
+    }
+    make_in(bundle, board, k, present, new, out, work)
+}
+
+// The same in a workspace with numbers in it that no file leaves there.
+fn lent_verdict<'a>(
+    call: u32,
+    bundle: &'a [u8],
+    board: Board,
+    k: usize,
+    present: bool,
+    new: &'a [u8],
+    out: &mut [u8],
+) -> Verdict {
+    let mut work = [0xA5A5A5A5u32; 794702];
+    verdict_in(call, bundle, board, k, present, new, out, &mut work)
+}
+
+// The three calls, with memory of their own or in a lent workspace.
+fn verdict_of<'a>(
+    call: u32,
+    lent: bool,
+    bundle: &'a [u8],
+    board: Board,
+    k: usize,
+    present: bool,
+    new: &'a [u8],
+    out: &mut [u8],
+) -> Verdict {
+    if lent {
+        return lent_verdict(call, bundle, board, k, present, new, out);
+    }
+    if call == 0 {
+        return judge(bundle);
+    }
+    if call == 1 {
+        return try_change(bundle, board, k, present, new);
+    }
+    make_change(bundle, board, k, present, new, out)
+}
+
 // Makes a change into the whole of an output.
 fn make<'a>(
+    lent: bool,
     bundle: &'a [u8],
     board: Board,
     k: usize,
@@ -124,7 +187,7 @@ fn make<'a>(
     seed: usize,
 ) -> bool {
     lay(out, seed);
-    let verdict = make_change(bundle, board, k, present, new, out);
+    let verdict = verdict_of(2, lent, bundle, board, k, present, new, out);
     if write_made(verdict) {
         return write_part(out);
     }
@@ -133,6 +196,7 @@ fn make<'a>(
 
 // The same into the front of an output, where it is long enough.
 fn make_front<'a>(
+    lent: bool,
     bundle: &'a [u8],
     board: Board,
     k: usize,
@@ -145,7 +209,7 @@ fn make_front<'a>(
     if out.len() < z {
         return false;
     }
-    make(bundle, board, k, present, new, &mut out[..z], seed)
+    make(lent, bundle, board, k, present, new, &mut out[..z], seed)
 }
 
 fn state_of(state: FileState) -> u32 {
@@ -177,7 +241,8 @@ fn look_up(bundle: &[u8], k: usize) -> bool {
 }
 
 fn change(
-    op: u32,
+    call: u32,
+    lent: bool,
     bundle: &[u8],
     k: usize,
     present: bool,
@@ -192,10 +257,18 @@ fn change(
         return false;
     }
     let new = part(news, 0, w);
-    if op == 1 {
-        return write_verdict(try_change(bundle, board, k, present, new));
+    if call == 1 {
+        return write_verdict(verdict_of(1, lent, bundle, board, k, present, new, out));
     }
-    make_front(bundle, board, k, present, new, out, z, seed)
+    make_front(lent, bundle, board, k, present, new, out, z, seed)
+}
+
+// What is asked, without whether a workspace is lent for it.
+fn call_of(op: u32) -> u32 {
+    if 3 < op {
+        return op - 4;
+    }
+    op
 }
 
 // Answers the next case; whether to go on.
@@ -211,20 +284,23 @@ fn answer(buf: &mut [u8], news: &mut [u8], out: &mut [u8]) -> bool {
     let w = word_at(&head, 16) as usize;
     let z = word_at(&head, 20) as usize;
     let seed = word_at(&head, 24) as usize;
-    if 3 < op {
+    if 6 < op {
         return false;
     }
+    let lent = 3 < op;
+    let call = call_of(op);
     if !fill_front(buf, n) {
         return false;
     }
     let bundle = part(buf, 0, n);
-    if op == 0 {
-        return write_verdict(judge(bundle));
+    if call == 0 {
+        let none = part(bundle, 0, 0);
+        return write_verdict(verdict_of(0, lent, bundle, fresh(), k, false, none, out));
     }
-    if op == 3 {
+    if call == 3 {
         return look_up(bundle, k);
     }
-    change(op, bundle, k, present, news, w, out, z, seed)
+    change(call, lent, bundle, k, present, news, w, out, z, seed)
 }
 
 // A proved loop has to end, and nothing says that the input does. So the loop counts its turns

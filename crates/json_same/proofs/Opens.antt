@@ -2,8 +2,8 @@
 -- added here asks nothing of those above.
 use mathlib.Core.Bool.{Bool, true}
 use Rattle.json_chars.proofs.Opens.{open-chars}
-use Rattle.json_same.specs.Same.{casedAs, sameList, sameAs, beginning, isEnd, isPlain}
+use Rattle.json_same.specs.Same.{casedAs, sameList, sameAs, beginning, isEnd, isPlain, pairOf, runFrom}
 
 unfoldable pub open-same : Bool
-unfolding open-chars casedAs sameList sameAs beginning isEnd isPlain
+unfolding open-chars casedAs sameList sameAs beginning isEnd isPlain pairOf runFrom
 open-same = true

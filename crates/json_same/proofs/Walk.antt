@@ -1,6 +1,6 @@
 -- One turn of a walk along two strings, or along a string and a word.
 -- Assumes nothing.
-use Prim.Native.Nat.{ℕ, _+_, _<_}
+use Prim.Native.Nat.{ℕ, _+_, _-_, _<_, _≤_}
 use mathlib.Core.Path.{_≡_, refl, sym, _∙_}
 use mathlib.Core.Bool.{Bool, true, false, cond}
 use mathlib.Core.List.{List, [], _∷_}
@@ -10,7 +10,7 @@ use native.Mathlib.Omega.{arith}
 use borrow.Author.Tests.{eq-eqb, ne-eqb, le-ltb, lt-ltb, eqb-true, eqb-false, leb-true, leb-false}
 use denote.Enum.Declared.{tagOf}
 use types.Run.{OneOf}
-use lib.ListN.{length, drop, drop-of-length-le, List·getD-eq-default}
+use lib.ListN.{length, take, drop, drop-of-length-le, List·getD-eq-default}
 use lib.Seq.{drop-cons}
 use lib.Dec.{leb, eqb, lit<}
 use Rattle.json_bytes.specs.Reads.{byteAt, within}
@@ -23,7 +23,11 @@ use Rattle.json_chars.proofs.Step.{the-type}
 use Rattle.json_chars.proofs.Bounds.{step-good, Good}
 use Rattle.json_chars.proofs.Walk.{Left, Taken, take-char, take-close, take-bad, opened, unopened}
 use Rattle.json_same.specs.declared.Case.{Case}
-use Rattle.json_same.specs.Same.{casedAs, sameList, sameAs, beginning, isEnd, isPlain}
+use Rattle.json_same.specs.declared.Pair.the-variants.{Same, Apart}
+use Rattle.json_same.specs.declared.Run.{Run}
+use Rattle.json_same.specs.declared.Run.the-variants.{Differs, Stops}
+use Rattle.json_same.specs.Same.{casedAs, sameList, sameAs, beginning, isEnd, isPlain, runFrom}
+use Rattle.json_same.proofs.Pairs.{Plain, same-told, apart-told, At, run-on, run-parts}
 
 -- ---- where the characters begin
 -- past the last byte there is none
@@ -151,3 +155,48 @@ module _ (case : Case) (a : List ℕ) (x : ℕ) (b : List ℕ) (y : ℕ) (whole 
       both-differ n =
           let t : Taken b other behind (w .ys) = take-char b y (w .ys) (w .left) other behind f in
           against-differs case a x (w .ys) whole (w .against) code next e other (t .others) (t .first) n
+
+-- ---- a run of plain bytes along two strings
+module _ (case : Case) (a b : List ℕ) (whole : Bool) where
+  both-same : (u v : ℕ) → At case a u b v Same → Both case a u b v whole → Both case a (u + 1) b (v + 1) whole
+  both-same u v t w =
+      let m : Plain (byteAt a u) (byteAt b v) (casedAs case (byteAt a u) ≡ casedAs case (byteAt b v)) = same-told case _ _ (t .told) in
+      both-more case a u b v whole w _ _ (plain-step a u _ refl (m .one)) _ _ (plain-step b v _ refl (m .other)) (m .compared)
+
+  both-apart : (u v : ℕ) → At case a u b v Apart → Both case a u b v whole → whole ≡ false
+  both-apart u v t w =
+      let m : Plain (byteAt a u) (byteAt b v) (casedAs case (byteAt a u) ≡ casedAs case (byteAt b v) → ⊥) = apart-told case _ _ (t .told) in
+      both-differ case a u b v whole w _ _ (plain-step a u _ refl (m .one)) _ _ (plain-step b v _ refl (m .other)) (m .compared)
+
+  module _ (x y : ℕ) (w : Both case a x b y whole) (r : Run) (is : r ≡ runFrom case 0 (take (length a - x) (drop x a)) (take (length b - y) (drop y b))) where
+    pub both-on : (n : ℕ) → r ≡ Stops n → Both case a (x + n) b (y + n) whole
+    both-on = run-on case a x b y (λ u v. Both case a u b v whole) (whole ≡ false) both-same both-apart w r is
+
+    pub both-part : r ≡ Differs → whole ≡ false
+    both-part = run-parts case a x b y (λ u v. Both case a u b v whole) (whole ≡ false) both-same both-apart w r is
+
+-- ---- and along a string and what is left of a word
+pub record Worded (case : Case) (s : List ℕ) (i : ℕ) (word : List ℕ) (k : ℕ) (whole : Bool) : Type 0 where
+  pub within-word : k ≤ length word
+  pub against : Against case s i (drop k word) whole
+
+module _ (case : Case) (s word : List ℕ) (whole : Bool) where
+  word-same : (u v : ℕ) → At case s u word v Same → Worded case s u word v whole → Worded case s (u + 1) word (v + 1) whole
+  word-same u v t w =
+      let m : Plain (byteAt s u) (byteAt word v) (casedAs case (byteAt s u) ≡ casedAs case (byteAt word v)) = same-told case _ _ (t .told) in
+      record {
+        within-word = omega (arith, t .other);
+        against = against-more case s u (drop v word) whole (w .against) _ _ (plain-step s u _ refl (m .one)) _ _ (next-letter word v (t .other)) (m .compared);
+      }
+
+  word-apart : (u v : ℕ) → At case s u word v Apart → Worded case s u word v whole → whole ≡ false
+  word-apart u v t w =
+      let m : Plain (byteAt s u) (byteAt word v) (casedAs case (byteAt s u) ≡ casedAs case (byteAt word v) → ⊥) = apart-told case _ _ (t .told) in
+      against-differs case s u (drop v word) whole (w .against) _ _ (plain-step s u _ refl (m .one)) _ _ (next-letter word v (t .other)) (m .compared)
+
+  module _ (i k : ℕ) (w : Worded case s i word k whole) (r : Run) (is : r ≡ runFrom case 0 (take (length s - i) (drop i s)) (take (length word - k) (drop k word))) where
+    pub word-on : (n : ℕ) → r ≡ Stops n → Worded case s (i + n) word (k + n) whole
+    word-on = run-on case s i word k (λ u v. Worded case s u word v whole) (whole ≡ false) word-same word-apart w r is
+
+    pub word-part : r ≡ Differs → whole ≡ false
+    word-part = run-parts case s i word k (λ u v. Worded case s u word v whole) (whole ≡ false) word-same word-apart w r is

@@ -10,6 +10,10 @@ use Rattle.json_chars.specs.declared.Step.{Step}
 use Rattle.json_chars.specs.declared.Step.the-variants.{Char, Close, Bad}
 use Rattle.json_same.specs.declared.Case.{Case}
 use Rattle.json_same.specs.declared.Case.the-variants.{Kept, Folded}
+use Rattle.json_same.specs.declared.Pair.{Pair}
+use Rattle.json_same.specs.declared.Pair.the-variants.{Same, Apart, Other}
+use Rattle.json_same.specs.declared.Run.{Run}
+use Rattle.json_same.specs.declared.Run.the-variants.{Differs, Stops}
 
 -- a character as it is compared: itself, or with A–Z folded to a–z
 unfoldable pub casedAs : Case → ℕ → ℕ
@@ -42,3 +46,14 @@ isEnd (Bad kind place) = true
 -- a byte that stands for itself inside a string: no quote, no backslash, no part of a longer sequence
 unfoldable pub isPlain : ℕ → Bool
 isPlain b = cond (eqb b 34) false (cond (eqb b 92) false (within 32 127 b))
+
+-- ---- What a walk along two strings, byte by byte, asks of them
+-- two bytes, a character beginning at each: where both stand for themselves, whether they are the same as they are compared
+unfoldable pub pairOf : Case → ℕ → ℕ → Pair
+pairOf case p q = cond (isPlain p && isPlain q) (cond (eqb (casedAs case p) (casedAs case q)) Same Apart) Other
+
+-- behind n bytes that were the same: on to the first two that are not, or to the end of either
+unfoldable pub runFrom : Case → ℕ → List ℕ → List ℕ → Run
+runFrom case n [] qs = Stops n
+runFrom case n (p ∷ ps) [] = Stops n
+runFrom case n (p ∷ ps) (q ∷ qs) = elim (pairOf case p q) [ Same ↦ runFrom case (n + 1) ps qs | Apart ↦ Differs | Other ↦ Stops n ]

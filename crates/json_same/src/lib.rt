@@ -2,8 +2,10 @@
 // length, in one slice or two, escapes decoded on the way, with no copy.
 ghost use mathlib.Core.Path.{_≡_};
 ghost use mathlib.Core.Bool.{_&&_};
+ghost use mathlib.Core.Logic.{_⊎_};
+ghost use Prim.Native.Nat.{_≤_};
 ghost use Rattle.json_chars.specs.Chars.{charsAt};
-ghost use Rattle.json_same.specs.Same.{casedAs, sameAs, beginning, isEnd, isPlain};
+ghost use Rattle.json_same.specs.Same.{casedAs, sameAs, beginning, isEnd, isPlain, pairOf, runFrom};
 use json_bytes::byte_at;
 use json_bytes::is_within;
 use json_chars::Step;
@@ -49,20 +51,24 @@ fn is_end(step: Step) -> bool
     }
 }
 
-// Whether a byte stands for itself inside a string: no quote, no escape, no part of a sequence.
+// Whether a byte stands for itself inside a string: no quote, no escape, no part of a sequence. Most
+// bytes are over 34, the quote, and two tests tell them.
 pub fn is_plain(b: u32) -> bool
     ensures { λ r. ⌜ r ≡ isPlain b ⌝ }
 {
-    if b == 34 {
+    if b == 92 {
         return false;
     }
-    if b == 92 {
+    if is_within(35, 127, b) {
+        return true;
+    }
+    if b == 34 {
         return false;
     }
     is_within(32, 127, b)
 }
 
-// Whether two bytes do; most characters of IDs and names do, and need no step.
+// Whether two bytes do.
 fn are_plain(p: u32, q: u32) -> bool
     ensures { λ r. ⌜ r ≡ (isPlain p && isPlain q) ⌝ }
 {
@@ -72,6 +78,73 @@ fn are_plain(p: u32, q: u32) -> bool
     false
 }
 
+// Two bytes side by side, a character beginning at each.
+enum Pair {
+    // Both stand for themselves, and are the same as they are compared.
+    Same,
+    // Both stand for themselves, and are not the same.
+    Apart,
+    // One of them does not.
+    Other,
+}
+
+// How far two strings go side by side, byte by byte.
+enum Run {
+    // To two bytes that are apart.
+    Differs,
+    // Over n bytes, to a place where a step has to tell what stands there, or to the end of a slice.
+    Stops { n: usize },
+}
+
+// What two bytes are to each other. Equal ones come first: they are the most, and need no folding.
+fn pair_of(case: Case, p: u32, q: u32) -> Pair
+    ensures { λ r. ⌜ r ≡ pairOf case p q ⌝ }
+{
+    if p == q {
+        if is_plain(p) {
+            return Pair::Same;
+        }
+        return Pair::Other;
+    }
+    if are_plain(p, q) {
+        if cased(case, p) == cased(case, q) {
+            return Pair::Same;
+        }
+        return Pair::Apart;
+    }
+    Pair::Other
+}
+
+fn wide(b: u8) -> u32
+    ensures { λ r. ⌜ r ≡ b ⌝ }
+{
+    b as u32
+}
+
+// The smaller of two lengths.
+fn shorter(n: usize, m: usize) -> usize
+    ensures { λ r. ⌜ (r ≤ n) × (r ≤ m) × ((n ≤ r) ⊎ (m ≤ r)) ⌝ }
+{
+    if n < m { n } else { m }
+}
+
+// How far two strings go side by side from a character of each on. One bound and one place serve
+// both, so that a turn is little more than that of a loop over bytes.
+fn run_of(s: &[u8], t: &[u8], case: Case) -> Run
+    ensures { λ r. ⌜ r ≡ runFrom case 0 (now (s .entry)) (now (t .entry)) ⌝ }
+{
+    let n = shorter(s.len(), t.len());
+    let mut k = 0;
+    while k < n {
+        match pair_of(case, wide(s[k]), wide(t[k])) {
+            Pair::Same => k += 1,
+            Pair::Apart => return Run::Differs,
+            Pair::Other => return Run::Stops { n: k },
+        }
+    }
+    Run::Stops { n: k }
+}
+
 // Whether the strings at two places have the same characters.
 pub fn same_text(a: &[u8], i: usize, b: &[u8], j: usize, case: Case) -> bool
     ensures { λ r. ⌜ r ≡ sameAs case (charsAt (now (a .entry)) i) (charsAt (now (b .entry)) j) ⌝ }
@@ -79,31 +152,26 @@ pub fn same_text(a: &[u8], i: usize, b: &[u8], j: usize, case: Case) -> bool
     let mut x = beginning_of(a, i);
     let mut y = beginning_of(b, j);
     loop {
-        let p = byte_at(a, x) as u32;
-        let q = byte_at(b, y) as u32;
-        if are_plain(p, q) {
-            if cased(case, p) != cased(case, q) {
-                return false;
-            }
-            x += 1;
-            y += 1;
-        } else {
-            let Step::Char { code, next } = step_at(a, x) else {
-                return is_end(step_at(b, y));
-            };
-            let Step::Char {
-                code: other,
-                next: behind,
-            } = step_at(b, y)
-            else {
-                return false;
-            };
-            if cased(case, code) != cased(case, other) {
-                return false;
-            }
-            x = next;
-            y = behind;
+        let Run::Stops { n } = run_of(&a[x..], &b[y..], case) else {
+            return false;
+        };
+        x += n;
+        y += n;
+        let Step::Char { code, next } = step_at(a, x) else {
+            return is_end(step_at(b, y));
+        };
+        let Step::Char {
+            code: other,
+            next: behind,
+        } = step_at(b, y)
+        else {
+            return false;
+        };
+        if cased(case, code) != cased(case, other) {
+            return false;
         }
+        x = next;
+        y = behind;
     }
 }
 
@@ -114,6 +182,11 @@ pub fn text_is(s: &[u8], at: usize, word: &[u8], case: Case) -> bool
     let mut i = beginning_of(s, at);
     let mut k = 0;
     loop {
+        let Run::Stops { n } = run_of(&s[i..], &word[k..], case) else {
+            return false;
+        };
+        i += n;
+        k += n;
         let Step::Char { code, next } = step_at(s, i) else {
             return word.len() <= k;
         };

@@ -13,7 +13,7 @@ use std::time::Duration;
 
 use super::measure::{measure, Effort, Figures, Program};
 use super::operations::{operations, Operation};
-use super::rows::{head, row};
+use super::rows::{head, is_smaller, row};
 
 const DEFAULT_SEED: u64 = 20_200_312;
 const DEFAULT_MILLISECONDS: u64 = 300;
@@ -81,7 +81,7 @@ fn print_table(options: &Options) -> Result<(), String> {
     let mut before: Option<(Operation, [Figures; 2])> = None;
     for operation in operations(options.seed) {
         let figures = measure(&operation, &options.programs, options.effort)?;
-        let smaller = before.as_ref().filter(|(before, _)| before.name == operation.name);
+        let smaller = before.as_ref().filter(|(before, _)| is_smaller(before, &operation));
         println!("{}", row(&operation, &figures, smaller.map(|(before, less)| (before, less))));
         before = Some((operation, figures));
     }

@@ -3,7 +3,7 @@
 
 use std::sync::Arc;
 
-use super::sets::{linked_set, whole_set, SIZES, TASKS};
+use super::sets::{linked_set, long_id_set, whole_set, LONG_IDS, SIZES, TASKS};
 use crate::compare::gate::case::{Bytes, Call, Change, GateCase, Output};
 use crate::compare::gate::sample::Set;
 use crate::compare::run::Question;
@@ -48,7 +48,8 @@ const ON_WHOLE_SETS: [(&str, Caller); 5] = [
     ("make Tasks", make_tasks),
 ];
 
-/// All operations, the sizes of each in rising order.
+/// All operations, the sizes of each in rising order; of long IDs, for each
+/// length.
 pub fn operations(seed: u64) -> Vec<Operation> {
     let whole_sets = SIZES.map(|size| whole_set(size, seed));
     for set in &whole_sets {
@@ -66,7 +67,12 @@ pub fn operations(seed: u64) -> Vec<Operation> {
         let bundle = Arc::new(set.bundle());
         operation("judge, no schedule data", *tasks, format!("{tasks} tasks"), bundle, Call::Judge)
     });
-    on_whole.chain(on_linked).collect()
+    let on_long_ids = LONG_IDS.iter().map(|(tasks, length)| {
+        let bundle = Arc::new(long_id_set(*tasks, *length).bundle());
+        let size_text = format!("{tasks} tasks, {length}-byte IDs");
+        operation("judge, long IDs", *tasks, size_text, bundle, Call::Judge)
+    });
+    on_whole.chain(on_linked).chain(on_long_ids).collect()
 }
 
 fn operation(
@@ -76,8 +82,8 @@ fn operation(
     bundle: Bytes,
     call: Call,
 ) -> Operation {
-    let case = Asked::new(&GateCase { bundle: bundle.clone(), call });
-    let look_up = Asked::new(&GateCase { bundle, call: Call::LookUp(0) });
+    let case = Asked::new(&GateCase::new(bundle.clone(), call));
+    let look_up = Asked::new(&GateCase::new(bundle, Call::LookUp(0)));
     Operation { name, size, size_text, case, look_up }
 }
 
@@ -128,7 +134,7 @@ mod tests {
     #[test]
     fn the_change_is_made() {
         let set = whole_set(60_000, 7);
-        let case = GateCase { bundle: Arc::new(set.bundle()), call: make_tasks(&set) };
+        let case = GateCase::new(Arc::new(set.bundle()), make_tasks(&set));
         let Answer::Made { refusal, length, board, output } = case.answer() else {
             panic!("the answer of a made change");
         };

@@ -20,6 +20,12 @@ pub(super) fn head(programs: &[Program; 2]) -> String {
     format!("| {} |\n{rule}", titles.join(" | "))
 }
 
+/// Whether the one before is the same operation at a smaller size, so that
+/// growth can be told.
+pub(super) fn is_smaller(before: &Operation, operation: &Operation) -> bool {
+    before.name == operation.name && before.size < operation.size
+}
+
 /// A measured operation; the one before it is of the same name at a smaller
 /// size, if there is one.
 pub(super) fn row(
@@ -94,6 +100,15 @@ mod tests {
             row(&large, &figures(12.0, 4.0), Some(before)),
             "| judge | 200 tasks | 12.000 | 4.000 | 3.00 | 2.00 | 1.00 | 1.50 | 1.50 |"
         );
+    }
+
+    #[test]
+    fn growth_is_told_from_a_smaller_size_of_the_same_operation() {
+        assert!(is_smaller(&operation(100), &operation(200)));
+        // Sizes begin anew with longer IDs.
+        assert!(!is_smaller(&operation(200), &operation(100)));
+        let other = Operation { name: "try", ..operation(100) };
+        assert!(!is_smaller(&other, &operation(200)));
     }
 
     #[test]

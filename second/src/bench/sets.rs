@@ -1,5 +1,6 @@
 //! The sets that are judged: whole ones of a given size, which are accepted,
-//! and ones of tasks, outline and links only, of a given number of tasks.
+//! and ones of tasks, outline and links only, of a given number of tasks, with
+//! short IDs or long ones.
 
 use super::files;
 use super::plan::Plan;
@@ -11,7 +12,10 @@ pub const SIZES: [usize; 3] = [60_000, 250_000, 1_000_000];
 /// Numbers of tasks of the sets without schedule data.
 pub const TASKS: [usize; 4] = [500, 1_000, 2_000, 4_000];
 
-/// Tasks in a package of such a set, its summary among them.
+/// Numbers of tasks and lengths of IDs of the sets with long IDs.
+pub const LONG_IDS: [(usize, usize); 3] = [(1_000, 48), (4_000, 48), (1_000, 200)];
+
+/// Tasks in a package of a set without schedule data, its summary among them.
 const PACKAGE: usize = 20;
 
 /// No set within the largest size has as many tasks.
@@ -82,13 +86,39 @@ pub fn linked_set(tasks: usize) -> Set {
         }
     };
     let link = |index: usize| files::link(&id(index - 1), &id(index), r#""FINISH_TO_START""#);
+    set_of(
+        files::array((0..tasks).map(task)),
+        files::array((1..tasks).map(link)),
+        files::array((0..tasks).map(record)),
+    )
+}
+
+/// So many milestones, all at the top of the outline, and every second linked
+/// with the one before: short records, so that long IDs fit in a bundle. These
+/// differ in their last four characters only, so that comparing two of them
+/// goes nearly to their end. Mark 73 is broken as above.
+pub fn long_id_set(tasks: usize, length: usize) -> Set {
+    let common: String = "HARBOUR-BASIN-2026/LOT-7/".chars().cycle().take(length - 4).collect();
+    let id = |index: usize| format!("{common}{index:04}");
+    let task =
+        |index: usize| format!(r#"{{"ID":"{}","Name":"M","TaskTypeID":"MILESTONE"}}"#, id(index));
+    let link = |index: usize| files::link(&id(index - 1), &id(index), r#""FINISH_TO_START""#);
+    set_of(
+        files::array((0..tasks).map(task)),
+        files::array((1..tasks).step_by(2).map(link)),
+        files::array((0..tasks).map(|index| files::outline_record(1, &id(index), None))),
+    )
+}
+
+/// The set of these three tables and the files that must be there.
+fn set_of(tasks: String, links: String, outline: String) -> Set {
     Set::empty()
         .with(0, files::FILE_TYPE)
         .with(1, files::METADATA)
         .with(3, files::PROJECT)
-        .with(9, &files::array((0..tasks).map(task)))
-        .with(14, &files::array((1..tasks).map(link)))
-        .with(15, &files::array((0..tasks).map(record)))
+        .with(9, &tasks)
+        .with(14, &links)
+        .with(15, &outline)
 }
 
 #[cfg(test)]
@@ -133,6 +163,28 @@ mod tests {
             assert_eq!(set.faults(), [(73, 1, 1)]);
             assert!(set.bundle().len() <= LARGEST_BUNDLE);
             assert_eq!([9, 14, 15].map(|file| records(&set, file)), [tasks, tasks - 1, tasks]);
+        }
+    }
+
+    #[test]
+    fn sets_with_long_ids_lack_schedule_data_only() {
+        for (tasks, length) in LONG_IDS {
+            let set = long_id_set(tasks, length);
+            assert_eq!(set.faults(), [(73, 1, 1)]);
+            assert!(set.bundle().len() <= LARGEST_BUNDLE);
+            assert_eq!([9, 14, 15].map(|file| records(&set, file)), [tasks, tasks / 2, tasks]);
+        }
+    }
+
+    #[test]
+    fn long_ids_differ_in_their_last_four_characters() {
+        for (tasks, length) in LONG_IDS {
+            let set = long_id_set(tasks, length);
+            let read = read_file(9, set.files[9].as_deref()).unwrap();
+            let ids: Vec<String> = read.iter().filter_map(|record| record.id("ID")).collect();
+            assert_eq!(ids.len(), tasks);
+            assert!(ids.iter().all(|id| id.len() == length));
+            assert!(ids.iter().all(|id| id[..length - 4] == ids[0][..length - 4]));
         }
     }
 }

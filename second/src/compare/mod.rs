@@ -14,6 +14,8 @@ pub mod command;
 mod draft;
 pub mod gate;
 #[cfg(not(serve_only))]
+mod ids;
+#[cfg(not(serve_only))]
 mod padded;
 #[cfg(not(serve_only))]
 pub mod random;

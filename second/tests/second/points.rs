@@ -159,6 +159,49 @@ fn order_2_only_the_list_is_whitespace() {
     }
 }
 
+fn calendars(ids: [&str; 2]) -> Set {
+    let [first, second] = ids.map(|id| format!(r#"{{"ID":"{id}","Name":"N"}}"#));
+    Set::empty().with(6, &format!("[{first},{second}]"))
+}
+
+fn shift_of(calendar: &str, id: &str) -> Set {
+    let shift = format!(r#"[{{"CalendarID":"{id}"}}]"#);
+    let calendar = format!(r#"[{{"ID":"{calendar}","Name":"N"}}]"#);
+    Set::empty().with(6, &calendar).with(7, &shift)
+}
+
+/// Both in one file, and one in each of two.
+fn are_one(first: &str, second: &str) -> bool {
+    let (key, target) = (calendars([first, second]).mark(22), shift_of(first, second).mark(49));
+    assert_eq!(key == (1, 2), target == (0, 0));
+    assert_eq!(key == (0, 0), target == (1, 1));
+    key == (1, 2)
+}
+
+/// The promise that stays when IDs are compared where they stand.
+#[test]
+fn order_3_ids_are_one_by_their_folded_characters_however_long_and_written() {
+    for count in [0, 1, 20, 200_000] {
+        let front = "K/".repeat(count / 2);
+        let ids = |first: &str, second: &str| {
+            are_one(&format!("{front}{first}"), &format!("{front}{second}"))
+        };
+        for same in ["A", "a", "\\u0041", "\\u0061"] {
+            assert!(ids("A", same) && ids(same, "a"), "{count} {same}");
+        }
+        assert!(ids("/", "\\/") && ids("\\u002f", "\\u002F"));
+        for other in ["B", "\\u0042", "@", "`", "\\\\u0041", "AA", "A\\u0041", "u0041"] {
+            assert!(!ids("A", other) && !ids(other, "\\u0061"), "{count} {other}");
+        }
+    }
+    let front = "K/".repeat(100_000);
+    let escaped = "k\\/".repeat(100_000);
+    assert!(are_one(&format!("{front}A"), &format!("{escaped}a")));
+    assert!(!are_one(&format!("{front}A"), &format!("{escaped}b")));
+    assert!(!are_one(&format!("A{front}"), &format!("B{escaped}")));
+    assert!(!are_one(&front, &format!("{escaped}k")));
+}
+
 /// An outline of these levels and parents, with TaskIDs 1, 2, 3 and so on.
 fn outline(rows: &[(i64, &str)]) -> Set {
     let row = |(index, (level, parent)): (usize, &(i64, &str))| {

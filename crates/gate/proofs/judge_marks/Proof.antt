@@ -1,5 +1,5 @@
--- `gate::judge_marks` meets its contract: the files that the touched marks read are read, and those marks are put over the
--- board's.
+-- `gate::judge_marks` meets its contract: the files that the touched marks read are read into the workspace, and those marks
+-- are put over the board's.
 use borrow.Author.Needs.{needs}
 use Rattle.gate.proofs.Marks.{board-put}
 use Rattle.gate.proofs.judge_marks.Statement.{statement}
@@ -43,13 +43,13 @@ slice-aggregate-put-marks-6 c = search needs
 
 put-marks-requires : tie.Need-put-marks-requires
 put-marks-requires c κs =
-    ((c .before .before .before .before .before .before .before .before .before .before .before .before .before .before .before .before .before .before .before .before .rule-rows .ensures, search needs, search needs, search needs, search needs, search needs), c .before .before .before .before .before .before .before .before .before .before .before .before .before .before .read-needed .ensures)
+    ((c .before .before .before .before .before .before .before .before .before .before .before .before .before .before .before .before .before .before .before .before .rule-rows .ensures, search needs, search needs, search needs, search needs, search needs), c .before .before .before .before .before .before .before .before .before .before .before .before .before .before .read-needed .ensures .0)
 
 same-length : tie.Need-same-length
 same-length c = search needs
 
 returns : tie.Need-returns
-returns c = board-put _ _ _ (c .before .before .before .before .before .before .before .before .before .before .before .before .before .before .before .before .before .before .before .before .before .before .before .before .before .before .before .args .board) _ _ (c .before .before .put-marks .ensures)
+returns c = (board-put _ _ _ (c .before .before .before .before .before .before .before .before .before .before .before .before .before .before .before .before .before .before .before .before .before .before .before .before .before .before .before .args .board) _ _ (c .before .before .put-marks .ensures), c .before .before .before .before .before .before .before .before .before .before .before .before .before .before .before .before .before .read-needed .ensures .1)
 
 pub judge-marks-spec : {M : Type 1} → statement M
 judge-marks-spec =

@@ -2,7 +2,7 @@
 use borrow.Author.Needs.{needs}
 use denote.Ref.{now}
 use Rattle.bundle_bytes.specs.Files.{newFile}
-use Rattle.gate.proofs.Laws.{made-again, made-answer}
+use Rattle.gate.proofs.Laws.{make-ends}
 use Rattle.gate.proofs.make_change.Statement.{statement}
 use Rattle.gate.proofs.make_change.Tie as tie
 
@@ -10,13 +10,15 @@ make-bundle-requires : tie.Need-make-bundle-requires
 make-bundle-requires c κs = search needs
 
 answer-requires : tie.Need-answer-requires
-answer-requires c κs = made-again _ _ _ _ _ (c .before .before .make-bundle .ensures .0)
+answer-requires c κs = search needs
 
 same-length : tie.Need-same-length
 same-length c = search needs
 
 returns : tie.Need-returns
-returns c = (made-answer (now (c .before .before .before .before .before .before .before .before .args .bundle)) (c .before .before .before .before .before .before .before .before .args .k) (newFile (c .before .before .before .before .before .before .before .before .args .present) (now (c .before .before .before .before .before .before .before .before .args .new))) (c .before .before .before .before .before .before .before .before .args .board) _ _ (c .answer .ensures) _ (c .before .before .before .make-bundle .ensures .0), c .before .before .before .make-bundle .ensures .1)
+returns c =
+    let a = c .before .before .before .before .before .before .before .before .args in
+    (make-ends (now (a .bundle)) (a .k) (newFile (a .present) (now (a .new))) (a .board) _ _ (c .answer .ensures) _ (c .before .before .before .make-bundle .ensures .0), c .before .before .before .make-bundle .ensures .1)
 
 pub make-change-spec : {M : Type 1} → statement M
 make-change-spec = tie.close (tie.spec make-bundle-requires answer-requires same-length returns)

@@ -1,9 +1,8 @@
--- `gate::read_needed` meets its contract. The loop's invariant: the needed ones of the files before f have been read; the
--- measure is how many are left.
+-- `gate::read_needed` meets its contract. The loop's invariant: the needed ones of the files before f have been read, and the
+-- workspace is as that leaves it; the measure is how many are left.
 use Prim.Native.Nat.{_-_, _≤_}
 use native.Mathlib.Omega.{arith}
 use borrow.Author.Needs.{needs}
-use lib.ListN.{length}
 use Rattle.bundle_bytes.specs.Files.{newFile}
 use Rattle.bundle_layout.specs.Change.{filesAfter}
 use Rattle.gate.proofs.Marks.{Reading, reading-starts, reading-skips, reading-goes-on, reading-ends}
@@ -12,7 +11,7 @@ use Rattle.gate.proofs.read_needed.Tie as tie
 
 abbrev Inv-loop : tie.InvT-loop
 Inv-loop s k present new rules all work₀ kinds₀ places₀ records₀ f₀ work kinds places records f =
-    Reading f all k (filesAfter s k (newFile present new)) (length work₀) work kinds places records × (f ≤ 20)
+    Reading f all k (filesAfter s k (newFile present new)) work₀ work kinds places records × (f ≤ 20)
 
 abbrev μ-loop : tie.MeasureT-loop
 μ-loop s k present new rules all work₀ kinds₀ places₀ records₀ f₀ work kinds places records f = 20 - f
@@ -35,7 +34,7 @@ loop-less c = omega arith
 
 loop-again : tie.Need-loop-again Inv-loop μ-loop
 loop-again c =
-    (reading-goes-on _ _ _ (c .before .before .before .before .before .before .before .before .before .before .before .before .before .before .before .before .loop .inv .0) (c .before .before .before .before .before .before .before .before .before .before .before .before .before .before .before .loop-test .taken) (c .before .before .before .before .before .before .before .before .before .before .before .before .before .before .before .before .before .before .before .before .before .before .before .before .pre .1) (c .before .before .before .before .before .before .before .before .read-one .ensures) (c .before .before .before .before .before .before .before .before .read-one .kept .1 .1 .1 .1 .1 .0), omega arith)
+    (reading-goes-on _ _ _ (c .before .before .before .before .before .before .before .before .before .before .before .before .before .before .before .before .loop .inv .0) (c .before .before .before .before .before .before .before .before .before .before .before .before .before .before .before .before .before .before .before .before .before .before .before .before .pre .0) (c .before .before .before .before .before .before .before .before .before .before .before .before .before .before .is-needed .ensures) (c .before .before .before .before .before .before .before .before .before .before .before .before .before .if1 .taken) (c .before .before .before .before .before .before .before .before .before .before .before .before .before .before .before .loop-test .taken) (c .before .before .before .before .before .before .before .before .before .before .before .before .before .before .before .before .before .before .before .before .before .before .before .before .pre .1) (c .before .before .before .before .before .before .before .before .read-one .ensures) (c .before .before .before .before .before .before .before .before .read-one .kept .1 .1 .1 .1 .1 .0), omega arith)
 
 add-f-2 : tie.Need-add-f-2 Inv-loop μ-loop
 add-f-2 c = omega arith

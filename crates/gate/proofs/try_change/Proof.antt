@@ -2,7 +2,7 @@
 use borrow.Author.Needs.{needs}
 use denote.Ref.{now}
 use Rattle.bundle_bytes.specs.Files.{newFile}
-use Rattle.gate.proofs.Laws.{tried-again, tried-answer}
+use Rattle.gate.proofs.Laws.{try-ends}
 use Rattle.gate.proofs.try_change.Statement.{statement}
 use Rattle.gate.proofs.try_change.Tie as tie
 
@@ -10,10 +10,12 @@ try-bundle-requires : tie.Need-try-bundle-requires
 try-bundle-requires c κs = search needs
 
 answer-requires : tie.Need-answer-requires
-answer-requires c κs = tried-again _ _ _ _ (c .try-bundle .ensures)
+answer-requires c κs = search needs
 
 returns : tie.Need-returns
-returns c = tried-answer (now (c .before .before .before .before .args .bundle)) (c .before .before .before .before .args .k) (newFile (c .before .before .before .before .args .present) (now (c .before .before .before .before .args .new))) (c .before .before .before .before .args .board) _ _ (c .answer .ensures) (c .before .try-bundle .ensures)
+returns c =
+    let a = c .before .before .before .before .args in
+    try-ends (now (a .bundle)) (a .k) (newFile (a .present) (now (a .new))) (a .board) _ _ (c .answer .ensures) (c .before .try-bundle .ensures)
 
 pub try-change-spec : {M : Type 1} → statement M
 try-change-spec = tie.close (tie.spec try-bundle-requires answer-requires returns)

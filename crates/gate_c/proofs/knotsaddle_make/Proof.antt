@@ -1,10 +1,12 @@
 -- `gate_c::knotsaddle_make` meets its contract, as `knotsaddle_try` does, and hands over the new bundle and its length.
-use mathlib.Core.Path.{sym, ap, _∙_}
+use mathlib.Core.Path.{ap}
 use native.Mathlib.Omega.{arith}
-use lib.ListN.{set}
-use denote.Ref.{now}
 use borrow.Author.Needs.{needs}
-use Rattle.gate_c.proofs.Laws.{lists-fit, make-fit, called-ill, kept, called-well, put-in, made-on}
+use denote.Ref.{now}
+use lib.ListN.{length, set}
+use Rattle.gate.specs.Gate.{changeMade}
+use Rattle.gate_c.specs.Calls.{handed}
+use Rattle.gate_c.proofs.Laws.{make-fit, called-ill, kept, called-well, put-in, verdict-on}
 use Rattle.gate_c.proofs.knotsaddle_make.Statement.{statement}
 use Rattle.gate_c.proofs.knotsaddle_make.Tie as tie
 
@@ -22,20 +24,28 @@ same-length-3 c = search needs
 
 returns : tie.Need-returns
 returns c =
-    let ill = called-ill _ _ (c .before .make-call-fault .ensures) (c .if1 .taken) _ _ _ in
-    (ill .0, (ill .1 .0, (ill .1 .1, (kept _ _ (c .before .make-call-fault .ensures) (c .if1 .taken) _ _, kept _ _ (c .before .make-call-fault .ensures) (c .if1 .taken) _ _))))
+    let f-is = c .before .make-call-fault .ensures in
+    let some = c .if1 .taken in
+    let ill = called-ill _ _ f-is some _ _ _ in
+    (ill .0, (ill .1 .0, (ill .1 .1, (kept _ _ f-is some _ _, kept _ _ f-is some _ _))))
 
 board-of-requires : tie.Need-board-of-requires
-board-of-requires c κs = lists-fit _ _ _ (make-fit _ _ _ _ (sym (c .before .before .before .make-call-fault .ensures) ∙ c .before .before .if1 .left) .1)
+board-of-requires c κs =
+    let tested = c .before .before in
+    make-fit _ _ _ _ _ (tested .before .make-call-fault .ensures) (tested .if1 .left) .1
 
 make-change-requires : tie.Need-make-change-requires
 make-change-requires c κs = search needs
 
 slice-write-size : tie.Need-slice-write-size
-slice-write-size c = omega (arith, make-fit _ _ _ _ (sym (c .before .before .before .before .before .before .before .before .make-call-fault .ensures) ∙ c .before .before .before .before .before .before .before .if1 .left) .0)
+slice-write-size c =
+    let tested = c .before .before .before .before .before .before .before in
+    omega (arith, make-fit _ _ _ _ _ (tested .before .make-call-fault .ensures) (tested .if1 .left) .0)
 
-put-board-requires : tie.Need-put-board-requires
-put-board-requires c κs = lists-fit _ _ _ (make-fit _ _ _ _ (sym (c .before .before .before .before .before .before .before .before .before .before .make-call-fault .ensures) ∙ c .before .before .before .before .before .before .before .before .before .if1 .left) .1)
+hand-over-requires : tie.Need-hand-over-requires
+hand-over-requires c κs =
+    let tested = c .before .before .before .before .before .before .before .before .before in
+    make-fit _ _ _ _ _ (tested .before .make-call-fault .ensures) (tested .if1 .left) .1
 
 same-length-4 : tie.Need-same-length-4
 same-length-4 c = search needs
@@ -51,12 +61,16 @@ same-length-7 c = search needs
 
 returns-2 : tie.Need-returns-2
 returns-2 c =
-    let size = now (c .before .before .before .before .before .before .before .before .before .before .before .before .before .before .before .before .before .before .before .before .before .before .before .before .before .args .size) in
-    let f-is = c .before .before .before .before .before .before .before .before .before .before .before .before .before .before .before .make-call-fault .ensures in
-    let none = c .before .before .before .before .before .before .before .before .before .before .before .before .before .before .if1 .left in
-    let v-is = made-on _ _ _ _ _ _ _ (c .before .before .before .before .before .before .before .before .before .make-change .ensures .0) (c .before .before .before .before .before .before .before .before .before .before .before .board-of .ensures) in
-    let well = called-well _ _ f-is none _ _ _ _ v-is _ _ (c .before .before .before .before .put-board .ensures) in
-    (well .0, (well .1 .0, (well .1 .1, (put-in _ _ f-is none _ _ _ (c .before .before .before .before .before .before .before .before .before .make-change .ensures .1), put-in _ _ f-is none _ size _ (ap (λ v. set size 0 (v .length)) v-is)))))
+    let over = c .before .before .before .before .hand-over .ensures in
+    let made-at = c .before .before .before .before .before .before .before .before .before in
+    let copied = made-at .before .before in
+    let tested = copied .before .before .before in
+    let a = tested .before .before .before .before .before .before .before .before .before .before .before .args in
+    let f-is = tested .before .make-call-fault .ensures in
+    let none = tested .if1 .left in
+    let verdict = verdict-on (λ board. changeMade (now (a .bundle)) (a .file) (handed (a .present) (now (a .new-bytes))) board (length (now (a .out)))) _ _ _ (made-at .make-change .ensures .0) (copied .board-of .ensures) in
+    let well = called-well _ _ f-is none _ _ _ _ verdict _ _ _ over in
+    (well .0, (well .1 .0, (well .1 .1, (put-in _ _ f-is none _ _ _ (made-at .make-change .ensures .1), put-in _ _ f-is none _ (now (a .size)) _ (ap (λ v. set (now (a .size)) 0 (v .length)) verdict)))))
 
 pub knotsaddle-make-spec : {M : Type 1} → statement M
 knotsaddle-make-spec =
@@ -70,7 +84,7 @@ knotsaddle-make-spec =
     board-of-requires
     make-change-requires
     slice-write-size
-    put-board-requires
+    hand-over-requires
     same-length-4
     same-length-5
     same-length-6

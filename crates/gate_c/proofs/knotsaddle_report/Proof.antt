@@ -1,5 +1,4 @@
 -- `gate_c::knotsaddle_report` meets its contract.
-use mathlib.Core.Path.{sym, _∙_}
 use denote.Ref.{now}
 use borrow.Author.Needs.{needs}
 use Rattle.gate_c.proofs.Laws.{lists-fit, text-ill, text-well}
@@ -13,7 +12,7 @@ returns : tie.Need-returns
 returns c = text-ill _ _ _ _ _ (c .before .call-fault .ensures) (c .if1 .taken)
 
 board-of-requires : tie.Need-board-of-requires
-board-of-requires c κs = lists-fit _ _ _ (sym (c .before .call-fault .ensures) ∙ c .if1 .left)
+board-of-requires c κs = lists-fit _ _ _ _ (c .before .call-fault .ensures) (c .if1 .left)
 
 report-requires : tie.Need-report-requires
 report-requires c κs = search needs

@@ -1,7 +1,9 @@
 -- `gate_c::knotsaddle_try` meets its contract, as `knotsaddle_judge` does, on a copy of the handed board.
-use mathlib.Core.Path.{sym, _∙_}
 use borrow.Author.Needs.{needs}
-use Rattle.gate_c.proofs.Laws.{lists-fit, called-ill, called-well, tried-on}
+use denote.Ref.{now}
+use Rattle.gate.specs.Gate.{tried}
+use Rattle.gate_c.specs.Calls.{handed}
+use Rattle.gate_c.proofs.Laws.{lists-fit, called-ill, called-well, verdict-on}
 use Rattle.gate_c.proofs.knotsaddle_try.Statement.{statement}
 use Rattle.gate_c.proofs.knotsaddle_try.Tie as tie
 
@@ -18,13 +20,17 @@ returns : tie.Need-returns
 returns c = called-ill _ _ (c .before .call-fault .ensures) (c .if1 .taken) _ _ _
 
 board-of-requires : tie.Need-board-of-requires
-board-of-requires c κs = lists-fit _ _ _ (sym (c .before .before .before .call-fault .ensures) ∙ c .before .before .if1 .left)
+board-of-requires c κs =
+    let tested = c .before .before in
+    lists-fit _ _ _ _ (tested .before .call-fault .ensures) (tested .if1 .left)
 
 try-change-requires : tie.Need-try-change-requires
 try-change-requires c κs = search needs
 
-put-board-requires : tie.Need-put-board-requires
-put-board-requires c κs = lists-fit _ _ _ (sym (c .before .before .before .before .before .before .before .call-fault .ensures) ∙ c .before .before .before .before .before .before .if1 .left)
+hand-over-requires : tie.Need-hand-over-requires
+hand-over-requires c κs =
+    let tested = c .before .before .before .before .before .before in
+    lists-fit _ _ _ _ (tested .before .call-fault .ensures) (tested .if1 .left)
 
 same-length-3 : tie.Need-same-length-3
 same-length-3 c = search needs
@@ -33,7 +39,14 @@ same-length-4 : tie.Need-same-length-4
 same-length-4 c = search needs
 
 returns-2 : tie.Need-returns-2
-returns-2 c = called-well _ _ (c .before .before .before .before .before .before .before .before .before .before .before .before .call-fault .ensures) (c .before .before .before .before .before .before .before .before .before .before .before .if1 .left) _ _ _ _ (tried-on _ _ _ _ _ _ (c .before .before .before .before .before .before .before .try-change .ensures) (c .before .before .before .before .before .before .before .before .board-of .ensures)) _ _ (c .before .before .before .before .put-board .ensures)
+returns-2 c =
+    let over = c .before .before .before .before .hand-over .ensures in
+    let tried-at = c .before .before .before .before .before .before .before in
+    let copied = tried-at .before in
+    let tested = copied .before .before .before in
+    let a = tested .before .before .before .before .before .before .before .before .args in
+    let verdict = verdict-on (tried (now (a .bundle)) (a .file) (handed (a .present) (now (a .new-bytes)))) _ _ _ (tried-at .try-change .ensures) (copied .board-of .ensures) in
+    called-well _ _ (tested .before .call-fault .ensures) (tested .if1 .left) _ _ _ _ verdict _ _ _ over
 
 pub knotsaddle-try-spec : {M : Type 1} → statement M
 knotsaddle-try-spec =
@@ -45,7 +58,7 @@ knotsaddle-try-spec =
     returns
     board-of-requires
     try-change-requires
-    put-board-requires
+    hand-over-requires
     same-length-3
     same-length-4
     returns-2)

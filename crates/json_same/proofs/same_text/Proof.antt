@@ -1,16 +1,13 @@
 -- `json_same::same_text` meets its contract: comparing what is left of the two strings answers as comparing the whole of them.
 use Prim.Native.Nat.{_+_, _-_}
-use mathlib.Core.Path.{_≡_, sym, _∙_}
+use mathlib.Core.Path.{sym, _∙_}
 use native.Mathlib.Omega.{arith}
 use borrow.Author.Needs.{needs}
 use lib.ListN.{length}
 use denote.Ref.{now}
-use Rattle.json_bytes.proofs.Laws.{both-left, both-right}
 use Rattle.json_chars.specs.Chars.{charsAt}
-use Rattle.json_chars.specs.Step.{stepAt}
-use Rattle.json_chars.specs.declared.Step.the-variants.{Char}
-use Rattle.json_same.specs.Same.{sameAs, isPlain}
-use Rattle.json_same.proofs.Walk.{Both, plain-step, goes-on, end-by-tag, both-start, both-end, both-longer, both-more, both-differ}
+use Rattle.json_same.specs.Same.{sameAs}
+use Rattle.json_same.proofs.Walk.{Both, goes-on, end-by-tag, both-start, both-end, both-longer, both-more, both-differ, both-on, both-part}
 use Rattle.json_same.proofs.same_text.Statement.{statement}
 use Rattle.json_same.proofs.same_text.Tie as tie
 
@@ -29,52 +26,45 @@ beginning-of-requires-2 c κs = search needs
 loop-holds : tie.Need-loop-holds Inv-loop μ-loop
 loop-holds c = both-start _ _ _ _ _ _ _ (c .before .beginning-of .ensures) (c .beginning-of2 .ensures)
 
-byte-at-requires : tie.Need-byte-at-requires Inv-loop μ-loop
-byte-at-requires c κs = search needs
+sub-run-of : tie.Need-sub-run-of Inv-loop μ-loop
+sub-run-of c = omega (arith, c .loop .inv .against .left .inside)
 
-cast-p : tie.Need-cast-p Inv-loop μ-loop
-cast-p c = omega arith
+part-run-of-start : tie.Need-part-run-of-start Inv-loop μ-loop
+part-run-of-start c = omega (arith, c .loop .inv .against .left .inside)
 
-byte-at-requires-2 : tie.Need-byte-at-requires-2 Inv-loop μ-loop
-byte-at-requires-2 c κs = search needs
+part-run-of-end : tie.Need-part-run-of-end Inv-loop μ-loop
+part-run-of-end c = omega arith
 
-cast-q : tie.Need-cast-q Inv-loop μ-loop
-cast-q c = omega arith
+sub-run-of-2 : tie.Need-sub-run-of-2 Inv-loop μ-loop
+sub-run-of-2 c = omega (arith, c .before .loop .inv .left .inside)
 
-are-plain-requires : tie.Need-are-plain-requires Inv-loop μ-loop
-are-plain-requires c κs = search needs
+part-run-of-start-2 : tie.Need-part-run-of-start-2 Inv-loop μ-loop
+part-run-of-start-2 c = omega (arith, c .before .loop .inv .left .inside)
 
-cased-requires : tie.Need-cased-requires Inv-loop μ-loop
-cased-requires c κs = search needs
+part-run-of-end-2 : tie.Need-part-run-of-end-2 Inv-loop μ-loop
+part-run-of-end-2 c = omega arith
 
-cased-requires-2 : tie.Need-cased-requires-2 Inv-loop μ-loop
-cased-requires-2 c κs = search needs
+run-of-requires : tie.Need-run-of-requires Inv-loop μ-loop
+run-of-requires c κs = search needs
 
--- the bytes that were tested are characters by themselves
-here : (c : tie.Then1 Inv-loop μ-loop) → stepAt (now (c .before .before .before .before .before .before .before .before .before .args .a)) (c .before .before .before .before .loop .x) ≡ Char (c .before .before .before .byte-at .result) (c .before .before .before .before .loop .x + 1)
-here c = plain-step _ _ _ (c .before .before .before .byte-at .ensures) (both-left _ _ (sym (c .before .are-plain .ensures) ∙ c .if1 .taken))
+enum-known-n : tie.Need-enum-known-n Inv-loop μ-loop
+enum-known-n c = search needs
 
-there : (c : tie.Then1 Inv-loop μ-loop) → stepAt (now (c .before .before .before .before .before .before .before .before .before .args .b)) (c .before .before .before .before .loop .y) ≡ Char (c .before .before .byte-at2 .result) (c .before .before .before .before .loop .y + 1)
-there c = plain-step _ _ _ (c .before .before .byte-at2 .ensures) (both-right (isPlain (c .before .before .before .byte-at .result)) _ (sym (c .before .are-plain .ensures) ∙ c .if1 .taken))
+enum-told : tie.Need-enum-told Inv-loop μ-loop
+enum-told c = search needs
 
 returns : tie.Need-returns Inv-loop μ-loop
-returns c =
-    sym (both-differ _ _ _ _ _ _ (c .before .before .before .before .before .before .before .loop .inv) _ _ (here (c .before .before .before)) _ _ (there (c .before .before .before))
-    (λ e. c .if2 .taken (c .before .before .cased .ensures ∙ e ∙ sym (c .before .cased2 .ensures))))
+returns c = sym (both-part _ _ _ _ _ _ (c .before .before .before .before .before .loop .inv) _ (c .before .before .run-of .ensures) (c .enum-told .given .1))
+
+-- behind the run the same is left to compare
+ran : (c : tie.After-known-told Inv-loop μ-loop) → Both (c .before .before .before .before .before .before .before .before .before .before .before .args .case) (now (c .before .before .before .before .before .before .before .before .before .before .before .args .a)) (c .before .before .before .before .before .before .loop .x + c .before .n .given .0 .0) (now (c .before .before .before .before .before .before .before .before .before .before .before .args .b)) (c .before .before .before .before .before .before .loop .y + c .before .n .given .0 .0) (sameAs (c .before .before .before .before .before .before .before .before .before .before .before .args .case) (charsAt (now (c .before .before .before .before .before .before .before .before .before .before .before .args .a)) (c .before .before .before .before .before .before .before .before .before .before .before .args .i)) (charsAt (now (c .before .before .before .before .before .before .before .before .before .before .before .args .b)) (c .before .before .before .before .before .before .before .before .before .before .before .args .j)))
+ran c = both-on _ _ _ _ _ _ (c .before .before .before .before .before .before .loop .inv) _ (c .before .before .before .run-of .ensures) _ (c .before .n .given .1)
 
 add-x : tie.Need-add-x Inv-loop μ-loop
-add-x c = omega (arith, goes-on _ _ _ (c .before .before .before .before .before .before .before .loop .inv .against .left) _ _ (here (c .before .before .before)))
+add-x c = omega (arith, ran c .against .left .inside)
 
 add-y : tie.Need-add-y Inv-loop μ-loop
-add-y c = omega (arith, goes-on _ _ _ (c .before .before .before .before .before .before .before .loop .inv .left) _ _ (there (c .before .before .before)))
-
-loop-less : tie.Need-loop-less Inv-loop μ-loop
-loop-less c = omega (arith, goes-on _ _ _ (c .before .before .before .before .before .before .before .loop .inv .against .left) _ _ (here (c .before .before .before)))
-
-loop-again : tie.Need-loop-again Inv-loop μ-loop
-loop-again c =
-    both-more _ _ _ _ _ _ (c .before .before .before .before .before .before .before .loop .inv) _ _ (here (c .before .before .before)) _ _ (there (c .before .before .before))
-    (sym (c .before .before .cased .ensures) ∙ c .if2 .left ∙ c .before .cased2 .ensures)
+add-y c = omega (arith, ran c .left .inside)
 
 step-at-requires : tie.Need-step-at-requires Inv-loop μ-loop
 step-at-requires c κs = search needs
@@ -91,7 +81,7 @@ is-end-requires c κs = search needs
 returns-2 : tie.Need-returns-2 Inv-loop μ-loop
 returns-2 c =
     c .is-end .ensures ∙
-    both-end _ _ _ _ _ _ (c .before .before .before .before .before .before .before .before .loop .inv) _ (c .before .before .before .step-at .ensures) (end-by-tag _ (c .before .before .match .keys2)) _ (c .before .step-at2 .ensures)
+    both-end _ _ _ _ _ _ (ran (c .before .before .before .before)) _ (c .before .before .before .step-at .ensures) (end-by-tag _ (c .before .before .match2 .keys2)) _ (c .before .step-at2 .ensures)
 
 step-at-requires-3 : tie.Need-step-at-requires-3 Inv-loop μ-loop
 step-at-requires-3 c κs = search needs
@@ -101,27 +91,26 @@ enum-known-other c = search needs
 
 returns-3 : tie.Need-returns-3 Inv-loop μ-loop
 returns-3 c =
-    sym (both-longer _ _ _ _ _ _ (c .before .before .before .before .before .before .before .before .before .before .loop .inv) _ _ (sym (c .before .before .before .before .before .step-at .ensures) ∙ c .before .before .before .code .given .1) _ (c .before .step-at3 .ensures) (end-by-tag _ (c .match2 .keys2)))
+    sym (both-longer _ _ _ _ _ _ (ran (c .before .before .before .before .before .before)) _ _ (sym (c .before .before .before .before .before .step-at .ensures) ∙ c .before .before .before .code .given .1) _ (c .before .step-at3 .ensures) (end-by-tag _ (c .match3 .keys2)))
 
-cased-requires-3 : tie.Need-cased-requires-3 Inv-loop μ-loop
-cased-requires-3 c κs = search needs
+cased-requires : tie.Need-cased-requires Inv-loop μ-loop
+cased-requires c κs = search needs
 
-cased-requires-4 : tie.Need-cased-requires-4 Inv-loop μ-loop
-cased-requires-4 c κs = search needs
+cased-requires-2 : tie.Need-cased-requires-2 Inv-loop μ-loop
+cased-requires-2 c κs = search needs
 
 returns-4 : tie.Need-returns-4 Inv-loop μ-loop
 returns-4 c =
-    sym (both-differ _ _ _ _ _ _ (c .before .before .before .before .before .before .before .before .before .before .before .before .before .before .before .loop .inv) _ _ (sym (c .before .before .before .before .before .before .before .before .before .before .step-at .ensures) ∙ c .before .before .before .before .before .before .before .before .code .given .1) _ _ (sym (c .before .before .before .before .before .before .step-at3 .ensures) ∙ c .before .before .before .before .other .given .1)
-    (λ e. c .if3 .taken (c .before .before .cased3 .ensures ∙ e ∙ sym (c .before .cased4 .ensures))))
+    sym (both-differ _ _ _ _ _ _ (ran (c .before .before .before .before .before .before .before .before .before .before .before)) _ _ (sym (c .before .before .before .before .before .before .before .before .before .before .step-at .ensures) ∙ c .before .before .before .before .before .before .before .before .code .given .1) _ _ (sym (c .before .before .before .before .before .before .step-at3 .ensures) ∙ c .before .before .before .before .other .given .1)
+    (λ e. c .if1 .taken (c .before .before .cased .ensures ∙ e ∙ sym (c .before .cased2 .ensures))))
 
-loop-less-2 : tie.Need-loop-less-2 Inv-loop μ-loop
-loop-less-2 c =
-    omega (arith, goes-on _ _ _ (c .before .before .before .before .before .before .before .before .before .before .before .before .before .before .before .loop .inv .against .left) _ _ (sym (c .before .before .before .before .before .before .before .before .before .before .step-at .ensures) ∙ c .before .before .before .before .before .before .before .before .code .given .1))
+loop-less : tie.Need-loop-less Inv-loop μ-loop
+loop-less c = omega (arith, goes-on _ _ _ (ran (c .before .before .before .before .before .before .before .before .before .before .before) .against .left) _ _ (sym (c .before .before .before .before .before .before .before .before .before .before .step-at .ensures) ∙ c .before .before .before .before .before .before .before .before .code .given .1))
 
-loop-again-2 : tie.Need-loop-again-2 Inv-loop μ-loop
-loop-again-2 c =
-    both-more _ _ _ _ _ _ (c .before .before .before .before .before .before .before .before .before .before .before .before .before .before .before .loop .inv) _ _ (sym (c .before .before .before .before .before .before .before .before .before .before .step-at .ensures) ∙ c .before .before .before .before .before .before .before .before .code .given .1) _ _ (sym (c .before .before .before .before .before .before .step-at3 .ensures) ∙ c .before .before .before .before .other .given .1)
-    (sym (c .before .before .cased3 .ensures) ∙ c .if3 .left ∙ c .before .cased4 .ensures)
+loop-again : tie.Need-loop-again Inv-loop μ-loop
+loop-again c =
+    both-more _ _ _ _ _ _ (ran (c .before .before .before .before .before .before .before .before .before .before .before)) _ _ (sym (c .before .before .before .before .before .before .before .before .before .before .step-at .ensures) ∙ c .before .before .before .before .before .before .before .before .code .given .1) _ _ (sym (c .before .before .before .before .before .before .step-at3 .ensures) ∙ c .before .before .before .before .other .given .1)
+    (sym (c .before .before .cased .ensures) ∙ c .if1 .left ∙ c .before .cased2 .ensures)
 
 pub same-text-spec : {M : Type 1} → statement M
 same-text-spec =
@@ -132,18 +121,18 @@ same-text-spec =
     beginning-of-requires
     beginning-of-requires-2
     loop-holds
-    byte-at-requires
-    cast-p
-    byte-at-requires-2
-    cast-q
-    are-plain-requires
-    cased-requires
-    cased-requires-2
+    sub-run-of
+    part-run-of-start
+    part-run-of-end
+    sub-run-of-2
+    part-run-of-start-2
+    part-run-of-end-2
+    run-of-requires
+    enum-known-n
+    enum-told
     returns
     add-x
     add-y
-    loop-less
-    loop-again
     step-at-requires
     enum-known-code
     step-at-requires-2
@@ -152,8 +141,8 @@ same-text-spec =
     step-at-requires-3
     enum-known-other
     returns-3
-    cased-requires-3
-    cased-requires-4
+    cased-requires
+    cased-requires-2
     returns-4
-    loop-less-2
-    loop-again-2)
+    loop-less
+    loop-again)

@@ -15,7 +15,7 @@ pub(super) fn add(cases: &mut Cases) {
 
 impl Cases {
     /// Two strings with their opening quotes first, exact and folded.
-    fn equality(&mut self, a: &[u8], b: &[u8]) {
+    pub(super) fn equality(&mut self, a: &[u8], b: &[u8]) {
         self.push(EQUAL, 0, 0, a, b);
         self.push(EQUAL_FOLDED, 0, 0, a, b);
     }

@@ -2,6 +2,7 @@
 
 mod dates;
 mod equality;
+mod ids;
 mod literals;
 mod mixed;
 mod numbers;
@@ -20,6 +21,7 @@ pub fn all_cases(seed: u64) -> Vec<Case> {
     utf8::add(&mut cases);
     texts::add(&mut cases);
     equality::add(&mut cases);
+    ids::add(&mut cases);
     dates::add(&mut cases);
     numbers::add(&mut cases);
     mixed::add(&mut cases);

@@ -17,6 +17,10 @@ pub const TRY: u32 = 1;
 pub const MAKE: u32 = 2;
 pub const LOOK_UP: u32 = 3;
 
+/// Added to an op whose call judges in a workspace that it is lent: the answer
+/// is the same.
+pub const LENT: u32 = 4;
+
 /// No bundle, file or output of a case is longer: one byte over the limit.
 pub const LONGEST: usize = LARGEST_BUNDLE + 1;
 
@@ -30,6 +34,7 @@ pub type Bytes = Arc<Vec<u8>>;
 pub struct GateCase {
     pub bundle: Bytes,
     pub call: Call,
+    pub lent: bool,
 }
 
 #[derive(Clone, Debug, PartialEq, Eq)]
@@ -89,7 +94,7 @@ impl Header {
     }
 
     fn check(&self) -> io::Result<()> {
-        if self.op > LOOK_UP {
+        if self.op > MAKE + LENT {
             return Err(unsound("there is no such op"));
         }
         if self.output as usize > LONGEST {
@@ -103,18 +108,30 @@ impl Header {
     }
 
     fn is_change(&self) -> bool {
-        [TRY, MAKE].contains(&self.op)
+        [TRY, MAKE].contains(&(self.op % LENT))
     }
 }
 
 impl GateCase {
+    /// With memory of its own for the call.
+    pub fn new(bundle: Bytes, call: Call) -> GateCase {
+        GateCase { bundle, call, lent: false }
+    }
+
+    /// In a lent workspace, which a lookup has no use for.
+    pub fn lent(bundle: Bytes, call: Call) -> GateCase {
+        let lent = !matches!(call, Call::LookUp(_));
+        GateCase { bundle, call, lent }
+    }
+
     pub fn op(&self) -> u32 {
-        match self.call {
+        let op = match self.call {
             Call::Judge => JUDGE,
             Call::Try(_) => TRY,
             Call::Make(..) => MAKE,
             Call::LookUp(_) => LOOK_UP,
-        }
+        };
+        op + if self.lent { LENT } else { 0 }
     }
 
     pub fn change(&self) -> Option<&Change> {
@@ -179,7 +196,7 @@ impl Question for GateCase {
         };
         let header = Header::read(op, input)?;
         let bundle = Arc::new(read_slice_within(input, header.bundle, LONGEST)?);
-        let call = match op {
+        let call = match op % LENT {
             JUDGE => Call::Judge,
             TRY => Call::Try(read_change(&header, input)?),
             MAKE => {
@@ -188,7 +205,7 @@ impl Question for GateCase {
             }
             _ => Call::LookUp(header.number),
         };
-        Ok(Some(GateCase { bundle, call }))
+        Ok(Some(GateCase { bundle, call, lent: op >= LENT }))
     }
 
     fn answer(&self) -> Answer {
@@ -217,7 +234,8 @@ impl Question for GateCase {
     }
 
     fn describe(&self, expected: &Answer, answered: &Answer) -> String {
-        let mut lines = vec![self.describe_call()];
+        let memory = if self.lent { ", in a lent workspace" } else { "" };
+        let mut lines = vec![format!("{}{memory}", self.describe_call())];
         lines.push(format!("  bundle {}", hex(&self.bundle, LONGEST_SHOWN)));
         if let Some(new) = self.change().and_then(|change| change.new.as_deref()) {
             lines.push(format!("  new {}", hex(new, LONGEST_SHOWN)));
@@ -326,7 +344,7 @@ mod tests {
 
     fn make(number: u32, new: Option<&[u8]>, length: u32) -> GateCase {
         let output = Output { length, seed: 250 };
-        GateCase { bundle: small(), call: Call::Make(change(number, new), output) }
+        GateCase::new(small(), Call::Make(change(number, new), output))
     }
 
     fn sent(case: &GateCase) -> Vec<u8> {
@@ -344,8 +362,9 @@ mod tests {
             Call::Make(change(u32::MAX, Some(b"abc")), Output { length: 9, seed: u32::MAX }),
             Call::LookUp(1 << 31),
         ];
-        for call in calls {
-            let case = GateCase { bundle: small(), call };
+        let owned = calls.iter().map(|call| GateCase::new(small(), call.clone()));
+        let lent = calls.iter().map(|call| GateCase::lent(small(), call.clone()));
+        for case in owned.chain(lent) {
             let bytes = sent(&case);
             assert_eq!(bytes.len(), case.sent_length());
             let mut input = &bytes[..];
@@ -374,7 +393,7 @@ mod tests {
     fn unsound_cases_are_not_answered() {
         let longer = LONGEST as u32 + 1;
         let headers: [[u32; 7]; 8] = [
-            [4, 0, 0, 0, 0, 0, 0],
+            [7, 0, 0, 0, 0, 0, 0],
             [0, longer, 0, 0, 0, 0, 0],
             [1, 0, 0, 1, longer, 0, 0],
             [2, 0, 0, 0, 0, longer, 0],
@@ -395,7 +414,7 @@ mod tests {
         let long = bytes(&vec![b' '; LONGEST]);
         let change = Change { board: Board::fresh(), number: 4, new: Some(long.clone()) };
         let output = Output { length: LONGEST as u32, seed: 1 };
-        let case = GateCase { bundle: long, call: Call::Make(change, output) };
+        let case = GateCase::new(long, Call::Make(change, output));
         assert_eq!(GateCase::read(&mut &sent(&case)[..]).unwrap(), Some(case));
     }
 
@@ -435,7 +454,7 @@ mod tests {
 
     #[test]
     fn a_file_is_looked_up() {
-        let look_up = |number| GateCase { bundle: small(), call: Call::LookUp(number) }.answer();
+        let look_up = |number| GateCase::new(small(), Call::LookUp(number)).answer();
         let found = |state, refusal, bytes: &[u8]| {
             let length = bytes.len() as u32;
             Answer::Found(Part { state, refusal, length, bytes: bytes.to_vec() })

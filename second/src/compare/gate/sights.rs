@@ -4,7 +4,7 @@
 use std::fmt::{self, Display};
 
 use super::answer::Answer;
-use super::case::{Call, Change, GateCase, JUDGE, LOOK_UP, MAKE, TRY};
+use super::case::{Call, Change, GateCase, JUDGE, LENT, LOOK_UP, MAKE, TRY};
 use crate::board::{Board, HOLDS};
 use crate::bundle::{file_state, FileState, FILES};
 use crate::compare::tables::possible_kinds;
@@ -116,13 +116,16 @@ fn wanted_of_rule(mark: usize) -> Vec<Sight> {
 }
 
 /// A judgement asks for no file and writes nothing, a try writes nothing, and
-/// a lookup changes nothing.
+/// a lookup changes nothing. A lent workspace changes no refusal.
 fn wanted_refusals() -> Vec<Sight> {
-    let refusals: [(u32, &[u32]); 4] = [
+    let refusals: [(u32, &[u32]); 7] = [
         (JUDGE, &[0, 1, 2, 3]),
         (TRY, &[0, 1, 2, 3, 4, 6]),
         (MAKE, &[0, 1, 2, 3, 4, 5, 6]),
         (LOOK_UP, &[0, 1, 2, 3, 4]),
+        (JUDGE + LENT, &[0, 1, 2, 3]),
+        (TRY + LENT, &[0, 1, 2, 3, 4, 6]),
+        (MAKE + LENT, &[0, 1, 2, 3, 4, 5, 6]),
     ];
     let of_op = |(op, refusals): (u32, &'static [u32])| {
         refusals.iter().map(move |refusal| Sight::Refusal { op, refusal: *refusal })
@@ -210,7 +213,7 @@ mod tests {
     }
 
     fn judged(bundle: Vec<u8>) -> BTreeSet<Sight> {
-        sights(&GateCase { bundle: Arc::new(bundle), call: Call::Judge })
+        sights(&GateCase::new(Arc::new(bundle), Call::Judge))
     }
 
     #[test]
@@ -269,7 +272,7 @@ mod tests {
         let board = Board::fresh();
         let change = Change { board, number: 1, new: Some(Arc::new(b"{}".to_vec())) };
         let bundle = Arc::new(accepted().bundle());
-        let seen = sights(&GateCase { bundle, call: Call::Try(change) });
+        let seen = sights(&GateCase::new(bundle, Call::Try(change)));
         let not_judged = |mark| Sight::Rejudged { mark, file: 1, kind: 2 };
         let none = Sight::Refusal { op: TRY, refusal: 0 };
         let expected = [not_judged(36), not_judged(65), not_judged(66), none];
@@ -280,7 +283,7 @@ mod tests {
     fn lookups_of_omitted_files_are_told_apart() {
         let look_up = |number| {
             let bundle = Arc::new(accepted().without(8).bundle());
-            sights(&GateCase { bundle, call: Call::LookUp(number) })
+            sights(&GateCase::new(bundle, Call::LookUp(number)))
         };
         let none = Sight::Refusal { op: LOOK_UP, refusal: 0 };
         assert_eq!(look_up(7), BTreeSet::from([none]));

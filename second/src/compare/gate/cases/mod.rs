@@ -4,6 +4,7 @@ mod breaking;
 mod changes;
 mod enumerations;
 mod files;
+mod ids;
 mod keys;
 mod layout;
 mod long;
@@ -41,6 +42,7 @@ pub fn all_cases(seed: u64) -> Vec<GateCase> {
     mutated::add(&mut cases);
     files::add(&mut cases);
     long::add(&mut cases);
+    ids::add(&mut cases);
     layout::add(&mut cases);
     sizes::add(&mut cases);
     changes::add(&mut cases);
@@ -60,7 +62,13 @@ struct Cases {
 impl Cases {
     fn push(&mut self, bundle: &Bytes, call: Call) {
         assert!(bundle.len() <= LONGEST);
-        self.list.push(GateCase { bundle: bundle.clone(), call });
+        let case = if self.is_lent() { GateCase::lent } else { GateCase::new };
+        self.list.push(case(bundle.clone(), call));
+    }
+
+    /// Every second case or so, in no step with what the cases are of.
+    fn is_lent(&self) -> bool {
+        (self.list.len() as u64).wrapping_mul(0x9E37_79B9_7F4A_7C15) >> 63 == 1
     }
 
     fn push_judge(&mut self, bundle: &Bytes) {
