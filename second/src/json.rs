@@ -207,17 +207,23 @@ pub enum TextKind {
     StringID,
 }
 
-/// A broken string rule and the place of the first wrong character.
+/// What a character can be wrong by, numbered as the JSON layer's answers have
+/// it. Of two rules that one character breaks, the lower one counts.
 #[derive(Clone, Copy, Debug, PartialEq, Eq)]
-pub struct Breach {
-    pub rule: u32,
-    pub place: usize,
+pub enum StringRule {
+    BarredControl = 1,
+    Whitespace = 2,
+    OutsideIDSet = 3,
+    UnpairedSurrogate = 4,
 }
 
-const BARRED_CONTROL: u32 = 1;
-const WHITESPACE: u32 = 2;
-const OUTSIDE_ID_SET: u32 = 3;
-const UNPAIRED_SURROGATE: u32 = 4;
+/// A broken string rule and the place of the first wrong character: its first
+/// byte as written.
+#[derive(Clone, Copy, Debug, PartialEq, Eq)]
+pub struct Breach {
+    pub rule: StringRule,
+    pub place: usize,
+}
 
 /// The first wrong character, and the lowest rule that it breaks.
 pub fn first_breach(characters: &[Character], kind: TextKind) -> Option<Breach> {
@@ -227,17 +233,21 @@ pub fn first_breach(characters: &[Character], kind: TextKind) -> Option<Breach> 
     })
 }
 
-fn lowest_broken_rule(characters: &[Character], index: usize, kind: TextKind) -> Option<u32> {
+fn lowest_broken_rule(
+    characters: &[Character],
+    index: usize,
+    kind: TextKind,
+) -> Option<StringRule> {
     let code = characters[index].code;
     if is_barred_control(code) {
-        Some(BARRED_CONTROL)
+        Some(StringRule::BarredControl)
     } else if is_wrong_whitespace(characters, index, kind) {
-        Some(WHITESPACE)
+        Some(StringRule::Whitespace)
     } else if kind == TextKind::StringID && !(0x20..=0x7E).contains(&code) {
-        Some(OUTSIDE_ID_SET)
+        Some(StringRule::OutsideIDSet)
     } else if (0xD800..=0xDFFF).contains(&code) {
         // Pairs are one character by now, so a surrogate left is unpaired.
-        Some(UNPAIRED_SURROGATE)
+        Some(StringRule::UnpairedSurrogate)
     } else {
         None
     }
@@ -564,7 +574,7 @@ mod tests {
 
     fn breach(text: &[u8], kind: TextKind) -> Option<(u32, usize)> {
         let characters = read_string(text, 0).unwrap().characters;
-        first_breach(&characters, kind).map(|b| (b.rule, b.place))
+        first_breach(&characters, kind).map(|b| (b.rule as u32, b.place))
     }
 
     #[test]

@@ -7,7 +7,7 @@ use crate::board::Mark;
 use crate::fields::{fields_of, Field, Type};
 use crate::json::{
     byte_at, date_of, first_breach, not_json, read_literal, read_number, read_string, skip_spaces,
-    Date, Fault, JsonString, Literal, Number, NumberToken, TextKind, Whole,
+    Breach, Date, Fault, JsonString, Literal, Number, NumberToken, StringRule, TextKind, Whole,
 };
 
 pub const FILE_TYPE: &[u8] = b"IPMDAR_SCHEDULE_PERFORMANCE_DATASET/1.0";
@@ -17,13 +17,17 @@ const NOT_A_TABLE: u32 = 12;
 const UNKNOWN_NAME: u32 = 13;
 const NAME_TWICE: u32 = 14;
 const WRONG_JSON_KIND: u32 = 15;
-const STRING_RULE: u32 = 16;
 const NOT_A_DATE: u32 = 17;
 const BEYOND_LIMITS: u32 = 18;
 const MISSING_VALUE: u32 = 19;
 const TOO_MANY_RECORDS: u32 = 20;
 const FILE_MISSING: u32 = 21;
 const WRONG_FILE_TYPE: u32 = 22;
+const BARRED_CONTROL: u32 = 30;
+const WHITESPACE: u32 = 31;
+const OUTSIDE_ID_SET: u32 = 32;
+const UNPAIRED_SURROGATE: u32 = 33;
+const NOT_WHOLE: u32 = 34;
 
 /// A value that isn't null.
 #[derive(Clone, Debug, PartialEq)]
@@ -296,17 +300,17 @@ impl<'a> Reader<'a> {
 
 fn value_of_string(string: &JsonString, kind: Type, at: usize) -> Result<Option<Value>, Fault> {
     match kind {
-        Type::Text => value_of_text(string, TextKind::Text, at),
-        Type::String => value_of_text(string, TextKind::String, at),
-        Type::StringID => value_of_text(string, TextKind::StringID, at),
+        Type::Text => value_of_text(string, TextKind::Text),
+        Type::String => value_of_text(string, TextKind::String),
+        Type::StringID => value_of_text(string, TextKind::StringID),
         Type::Date => value_of_date(string, at).map(Some),
         Type::Boolean | Type::Decimal | Type::Integer => fault(WRONG_JSON_KIND, at),
     }
 }
 
-fn value_of_text(string: &JsonString, kind: TextKind, at: usize) -> Result<Option<Value>, Fault> {
-    if first_breach(&string.characters, kind).is_some() {
-        return fault(STRING_RULE, at);
+fn value_of_text(string: &JsonString, kind: TextKind) -> Result<Option<Value>, Fault> {
+    if let Some(Breach { rule, place }) = first_breach(&string.characters, kind) {
+        return fault(kind_of_rule(rule), place);
     }
     let text: String = string
         .characters
@@ -315,6 +319,15 @@ fn value_of_text(string: &JsonString, kind: TextKind, at: usize) -> Result<Optio
         .collect();
     // The empty string is null.
     Ok((!text.is_empty()).then_some(Value::Text(text)))
+}
+
+fn kind_of_rule(rule: StringRule) -> u32 {
+    match rule {
+        StringRule::BarredControl => BARRED_CONTROL,
+        StringRule::Whitespace => WHITESPACE,
+        StringRule::OutsideIDSet => OUTSIDE_ID_SET,
+        StringRule::UnpairedSurrogate => UNPAIRED_SURROGATE,
+    }
 }
 
 fn value_of_date(string: &JsonString, at: usize) -> Result<Value, Fault> {
@@ -338,7 +351,7 @@ fn value_of_number(token: &NumberToken, kind: Type, at: usize) -> Result<Value, 
     }
     match number.whole() {
         Whole::Integer(integer) => Ok(Value::Integer(integer)),
-        Whole::NotWhole => fault(WRONG_JSON_KIND, at),
+        Whole::NotWhole => fault(NOT_WHOLE, at),
         Whole::Beyond => fault(BEYOND_LIMITS, at),
     }
 }

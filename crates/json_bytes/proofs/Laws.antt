@@ -20,6 +20,15 @@ pub by-test : {A : Type 0} (P : A → Type 0) (t : Bool) (a b : A) → (t ≡ tr
 by-test P true a b f g = f refl
 by-test P false a b f g = g refl
 
+-- where the test does not matter
+pub either : {A : Type 0} (P : A → Type 0) (t : Bool) (a b : A) → P a → P b → P (cond t a b)
+either P t a b p q = by-test P t a b (λ _. p) (λ _. q)
+
+-- where one test decides two things
+pub together : {A B : Type 0} (P : A → B → Type 0) (t : Bool) (a b : A) (c d : B) → P a c → P b d → P (cond t a b) (cond t c d)
+together P true a b c d p q = p
+together P false a b c d p q = q
+
 pub both-left : (a b : Bool) → (a && b) ≡ true → a ≡ true
 both-left true b e = refl
 both-left false b e = e

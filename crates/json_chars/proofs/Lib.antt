@@ -2,3 +2,4 @@ pub mod Opens
 pub mod Laws
 pub mod Bounds
 pub mod Walk
+pub mod FaultKinds

@@ -57,8 +57,8 @@ use Rattle.json_number.proofs.Scale.{ten-pos, nonzero, test-swap, same-
 pub whole-in : (s : List ℕ) (at : ℕ) {end : ℕ} → numberAt s at .reading ≡ Whole end → (at < end) × (end ≤ length s)
 whole-in s at e = rw e at (number-in s at)
 
--- a fault is 11, at a place from the number's on that is at most the file's length if the number's is
-pub fault-in : (s : List ℕ) (at : ℕ) {kind place : ℕ} → numberAt s at .reading ≡ Fault kind place → (kind ≡ 11) × (at ≤ place) × (at ≤ length s → place ≤ length s)
+-- a fault's place is one from the number's on that is at most the file's length if the number's is
+pub fault-in : (s : List ℕ) (at : ℕ) {kind place : ℕ} → numberAt s at .reading ≡ Fault kind place → (at ≤ place) × (at ≤ length s → place ≤ length s)
 fault-in s at e = rw e at (number-in s at)
 
 -- ---- The value

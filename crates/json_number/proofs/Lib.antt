@@ -7,3 +7,4 @@ pub mod Parts
 pub mod Places
 pub mod Laws
 pub mod Cases
+pub mod FaultKinds

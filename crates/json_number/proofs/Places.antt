@@ -55,7 +55,7 @@ ExponentIn s j (NoPower place) = (j ≤ place) × (place ≤ length s)
 
 abbrev pub ReadingIn : List ℕ → ℕ → Reading → Type 0
 ReadingIn s j (Whole end) = (j < end) × (end ≤ length s)
-ReadingIn s j (Fault kind place) = (kind ≡ 11) × (j ≤ place) × (j ≤ length s → place ≤ length s)
+ReadingIn s j (Fault kind place) = (j ≤ place) × (j ≤ length s → place ≤ length s)
 
 fraction-in : (s : List ℕ) (j i c : ℕ) → j < i → i ≤ length s → endZeros c ≤ i → CoefficientIn s j (fractionAt s i c)
 unfolding fractionAt
@@ -111,12 +111,12 @@ exponent-in s j i l h = go (eqb (byteAt s i) 101) refl (eqb (byteAt s i) 69) ref
 -- ---- The number
 with-in : (s : List ℕ) (negative : Bool) (j : ℕ) (k : Coefficient) → CoefficientIn s j k → ReadingIn s j (withCoefficient s negative k .reading)
 unfolding withCoefficient withExponent
-with-in s negative j (NoDigit place) h = (refl, h .0, h .1)
+with-in s negative j (NoDigit place) h = h
 with-in s negative j (Digits end c zeros fraction) h = go (exponentAt s end) (exponent-in s j end (h .0) (h .1))
   where
     go : (x : Exponent) → ExponentIn s j x → ReadingIn s j (withExponent negative c zeros fraction x .reading)
     go (Power e below n) g = g
-    go (NoPower place) g = (refl, g .0, λ _. g .1)
+    go (NoPower place) g = (g .0, λ _. g .1)
 
 -- behind a minus sign
 behind : (s : List ℕ) (j : ℕ) (k : Coefficient) → j + 1 ≤ length s → CoefficientIn s (j + 1) k → CoefficientIn s j k

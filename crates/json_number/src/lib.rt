@@ -33,7 +33,7 @@ pub struct Number {
 // A value as an Integer. `Is` is negative only where the magnitude is not 0.
 pub enum Integer {
     Is { negative: bool, magnitude: u64 },
-    // Not whole: kind 15.
+    // Not whole: kind 34.
     Fraction,
     // Beyond ±999,999,999,999,999: kind 18.
     TooLarge,

@@ -3,3 +3,4 @@ pub mod Laws
 pub mod Bounds
 pub mod Spaces
 pub mod Cases
+pub mod FaultKinds

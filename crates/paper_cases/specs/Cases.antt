@@ -142,7 +142,7 @@ withDate = arrayOf "{\"CalendarID\":\"C\",\"ExceptionDate\":"
 unfoldable pub withLevel : List String → String
 withLevel = arrayOf "{\"TaskID\":\"T\",\"Level\":"
 
--- ---- The cases. Where a value is at fault, the place is how many bytes stand before it.
+-- ---- The cases. Where a value or a character is at fault, the place is how many bytes stand before it.
 unfoldable pub cases : List Case
 cases =
     -- P1 `ENG-01` and `eng-01` are one ID: mark 22, the key of Calendars
@@ -153,10 +153,11 @@ cases =
     ruleMark 23 (withOrdinal ("null" ∷ "0.0" ∷ [])) gives broken 2 ∷
     ruleMark 23 (withOrdinal ("0" ∷ "0.0" ∷ [])) gives broken 2 ∷
     ruleMark 23 (withOrdinal ("0" ∷ "1" ∷ [])) gives holds ∷
-    -- P3 `10e-1` is Integer 1; `0.5` is 15
+    -- P3 `10e-1` is Integer 1; `0.5` is 34 (order 4 of document 02), in the place it had; 15 is for another JSON kind
     fileMark 7 (withOrdinal ("10e-1" ∷ [])) gives holds ∷
     ordinalIn (withOrdinal ("10e-1" ∷ [])) gives (1 ∷ []) ∷
-    fileMark 7 (withOrdinal ("0.5" ∷ [])) gives mark 15 29 ∷
+    fileMark 7 (withOrdinal ("0.5" ∷ [])) gives mark 34 29 ∷
+    fileMark 7 (withOrdinal (quoted "0  5" ∷ [])) gives mark 15 29 ∷
     -- P4 `-0` isn't below zero: mark 68, "no hours below zero"
     ruleMark 68 (withHours ("-0" ∷ [])) gives holds ∷
     ruleMark 68 (withHours ("-1" ∷ [])) gives broken 1 ∷
@@ -177,9 +178,22 @@ cases =
     -- P7 2000-02-29 is a date, 1900-02-29 isn't: 17
     fileMark 8 (withDate (quoted "2000-02-29" ∷ [])) gives holds ∷
     fileMark 8 (withDate (quoted "1900-02-29" ∷ [])) gives mark 17 35 ∷
-    -- P8 `A  B` (two spaces) breaks String and not Text: 16
-    fileMark 6 (withName (quoted "A  B" ∷ [])) gives mark 16 18 ∷
+    -- P8 `A  B` (two spaces) breaks String and not Text: 31 at the second space (order 4)
+    fileMark 6 (withName (quoted "A  B" ∷ [])) gives mark 31 21 ∷
     fileMark 6 (withComments (quoted "A  B" ∷ [])) gives holds ∷
+    -- order 4: each kind, at the backslash of an escape
+    fileMark 6 (withComments (quoted "A\\u007F" ∷ [])) gives mark 30 35 ∷
+    fileMark 6 (withName (quoted "A\\tB" ∷ [])) gives mark 31 20 ∷
+    fileMark 6 (withID (quoted "A\\u00E9" ∷ [])) gives mark 32 20 ∷
+    fileMark 6 (withComments (quoted "A\\uD800" ∷ [])) gives mark 33 35 ∷
+    -- a space at the start and at the end
+    fileMark 6 (withName (quoted " A" ∷ [])) gives mark 31 19 ∷
+    fileMark 6 (withName (quoted "A " ∷ [])) gives mark 31 20 ∷
+    -- two faults of one character: the lower kind; of two characters: the first
+    fileMark 6 (withID (quoted "A\\u000B" ∷ [])) gives mark 30 20 ∷
+    fileMark 6 (withID (quoted "A\\tB" ∷ [])) gives mark 31 20 ∷
+    fileMark 6 (withID (quoted "A\\uD800" ∷ [])) gives mark 32 20 ∷
+    fileMark 6 (withID (quoted "\\u00E9\\u007F" ∷ [])) gives mark 32 19 ∷
     -- P9 Levels 1,2,3,3,2 have parents none,1,2,2,1
     parentsIn (withLevel ("1" ∷ "2" ∷ "3" ∷ "3" ∷ "2" ∷ [])) gives (0 ∷ 1 ∷ 2 ∷ 2 ∷ 1 ∷ []) ∷
     -- P10 Levels 1,3 break mark 78 at 2; 1,1 doesn't

@@ -1,15 +1,21 @@
 -- Worked cases of document 01 for a file: P11, and both sides of the kinds that concern a file as a whole.
 -- Assumes nothing.
-use Prim.Native.Nat.{ℕ}
+use Prim.Native.Nat.{ℕ, _^_}
 use Prim.Native.String.{String}
-use mathlib.Core.Path.{_≡_, refl}
-use mathlib.Core.Bool.{true, false}
-use mathlib.Core.List.{List, [], _∷_, map}
+use mathlib.Core.Path.{_≡_, refl, ap, _∙_}
+use mathlib.Core.Bool.{Bool, true, false, cond, _&&_}
+use mathlib.Core.List.{List, [], _∷_, _++_, map}
+use borrow.Author.Tests.{lt-ltb}
+use lib.ListN.{length, replicate}
+use lib.Dec.{ltb, leb}
+use Rattle.json_bytes.specs.Reads.{within}
 use Rattle.table_file.proofs.Opens.{open-files}
 use Rattle.table_fields.specs.Ascii.{codes}
-use Rattle.table_fields.specs.Fields.{fieldsOf}
+use Rattle.table_fields.specs.Fields.{Field, fieldsOf}
 use Rattle.table_file.specs.Table.{holds, fault, TableRead, tableRead}
 use Rattle.table_file.specs.File.{fileOf}
+use Rattle.table_file.proofs.FaultKinds.{cellsOf, fileKinds}
+use Rattle.table_file.proofs.Many.{manyRecords, many-short, many-given}
 
 -- room for two records of Resources
 abbrev cellsBefore : List ℕ
@@ -65,3 +71,48 @@ pub types : map (λ file. fileOf 0 true [] (codes file) [] .read) ("IPMDAR_SCHED
     ≡ (holds 0 ∷ fault 22 0 ∷ fault 22 0 ∷ fault 22 0 ∷ [])
 unfolding open-files
 types = refl
+
+-- ---- Each kind of a file's mark is given
+-- a file's kind, where it meets what `file-kinds` asks for; else 99, which is none
+abbrev kindOf : ℕ → Bool → List Field → List ℕ → List ℕ → ℕ
+kindOf file present fields s cells =
+    cond (ltb (length s) (2 ^ 32) && (leb (length fields) 64 && leb (cellsOf (within 1 3 file) fields) (length cells)))
+    (fileOf file present fields s cells .read .kind) 99
+
+-- a singleton with the fields of a table
+abbrev single : ℕ → List ℕ → ℕ
+single table s = kindOf 3 true (fieldsOf table) s (replicate 64 0)
+
+-- the kinds in order; 20 takes 4,097 records, and is shown apart
+abbrev kindsWith : ℕ → List ℕ
+kindsWith twenty =
+    single 2 (codes "{}") ∷  -- it holds
+    single 6 (codes "{\"" ++ (0xFF ∷ [])) ∷  -- a byte that begins no sequence
+    single 6 (codes "{") ∷  -- cut off
+    single 6 (codes "[]") ∷  -- no object
+    single 6 (codes "{\"id\"") ∷  -- case is kept in names
+    single 6 (codes "{\"ID\":\"C\",\"ID\"") ∷  -- a name a second time
+    single 6 (codes "{\"ID\":1") ∷  -- a number is no StringID
+    single 8 (codes "{\"ExceptionDate\":\"1900-02-29\"") ∷  -- no day of the calendar
+    single 7 (codes "{\"Ordinal\":1e15") ∷  -- too large for an Integer
+    single 6 (codes "{}") ∷  -- no field at all
+    twenty ∷
+    kindOf 0 false [] [] [] ∷  -- omitted
+    kindOf 0 true [] [] [] ∷  -- not its 39 bytes
+    single 6 (codes "{\"Comments\":\"\\u007F\"") ∷  -- a barred control
+    single 6 (codes "{\"Name\":\" \"") ∷  -- a space at the start
+    single 6 (codes "{\"ID\":\"\\u00E9\"") ∷  -- outside the ID set
+    single 6 (codes "{\"Comments\":\"\\uD800\"") ∷  -- an unpaired surrogate
+    single 7 (codes "{\"Ordinal\":0.5") ∷  -- not whole
+    []
+
+with-twenty : kindsWith 20 ≡ fileKinds
+unfolding open-files
+with-twenty = refl
+
+many-is : kindOf 4 true [] manyRecords [] ≡ 20
+unfolding within
+many-is = rw (lt-ltb (length manyRecords) (2 ^ 32) many-short) many-given
+
+pub each-given : kindsWith (kindOf 4 true [] manyRecords []) ≡ fileKinds
+each-given = ap kindsWith many-is ∙ with-twenty

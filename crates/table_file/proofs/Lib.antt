@@ -1,5 +1,7 @@
 pub mod Opens
 pub mod Cases
+pub mod Elements
 pub mod Kept
-pub mod KindBound
+pub mod FaultKinds
+pub mod Many
 pub mod Laws

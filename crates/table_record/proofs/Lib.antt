@@ -1,5 +1,5 @@
 pub mod Opens
 pub mod Bounds
 pub mod Cases
-pub mod Faults
+pub mod FaultKinds
 pub mod Laws

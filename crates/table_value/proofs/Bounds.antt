@@ -14,9 +14,12 @@ use Rattle.json_bytes.specs.declared.Reading.the-variants.{Whole, Fault}
 use Rattle.json_bytes.proofs.Laws.{by-test}
 use Rattle.json_bytes.proofs.Bounds.{Within, literal-within}
 use Rattle.json_chars.specs.Chars.{charsAt}
-use Rattle.json_text.specs.Text.{textRead, textAt}
+use Rattle.json_text.specs.Text.{textRead, textAt, wrongAt}
 use Rattle.json_text.specs.declared.TextType.{TextType}
-use Rattle.json_text.proofs.Bounds.{text-within}
+use Rattle.json_text.specs.declared.Wrong.{Wrong}
+use Rattle.json_text.specs.declared.TextRead.{TextRead}
+use Rattle.json_text.proofs.Bounds.{text-within, wrong-within}
+use Rattle.json_text.proofs.FaultKinds.{rule-few, wrong-rule}
 use Rattle.json_number.specs.Number.{numberAt, integerOf}
 use Rattle.json_number.specs.declared.Number.{Number}
 use Rattle.json_number.specs.declared.Value.{Value}
@@ -48,26 +51,31 @@ use Rattle.table_value.specs.Value.{
 use Rattle.table_value.specs.declared.ValueRead.{ValueRead}
 use Rattle.table_value.specs.declared.ValueRead.the-variants.{Held, Null, Bad}
 
+-- the rules are four, so that their kinds are numbers of 32 bits
+pub rule-of : (ty : TextType) (s : List ℕ) (at : ℕ) (t : TextRead) → t ≡ textRead ty s at → t .wrong .rule ≤ 4
+unfolding textRead
+rule-of ty s at t e = rw e (rule-few ty (wrongAt ty s at .rule) (wrong-rule ty s at))
+
 abbrev pub ValueIn : List ℕ → ℕ → ValueRead → Type 0
 ValueIn s at (Held end) = (at < end) × (end ≤ length s)
 ValueIn s at (Null end) = (at < end) × (end ≤ length s)
 ValueIn s at (Bad kind place) = place ≤ length s
 
 module _ (s : List ℕ) (at : ℕ) (l : at ≤ length s) where
-  string-in : (ty end rule : ℕ) → (at < end) × (end ≤ length s) → ValueIn s at (stringIn s at ty end rule)
+  string-in : (ty end : ℕ) (wrong : Wrong) → wrong .place ≤ length s → (at < end) × (end ≤ length s) → ValueIn s at (stringIn s at ty end wrong)
   unfolding stringIn textHeld dateHeld
-  string-in ty end rule h =
+  string-in ty end wrong w h =
       by-test (ValueIn s at) (within 4 6 ty) _ _
-      (λ _. by-test (ValueIn s at) (ltb 0 rule) _ _ (λ _. l) (λ _. by-test (ValueIn s at) (eqb end (at + 2)) _ _ (λ _. h) (λ _. h)))
+      (λ _. by-test (ValueIn s at) (ltb 0 (wrong .rule)) _ _ (λ _. w) (λ _. by-test (ValueIn s at) (eqb end (at + 2)) _ _ (λ _. h) (λ _. h)))
       (λ _. by-test (ValueIn s at) (eqb ty 1) _ _ (λ _. of-date (dateOf (charsAt s at))) (λ _. l))
     where
       of-date : (d : Date) → ValueIn s at (dateHeld at end d)
       of-date (Day year month day) = h
       of-date NoDate = l
 
-  of-text : (ty rule : ℕ) (r : Reading) → Within s at r → ValueIn s at (elim r [ Whole end ↦ stringIn s at ty end rule | Fault kind place ↦ Bad kind place ])
-  of-text ty rule (Whole end) h = string-in ty end rule h
-  of-text ty rule (Fault kind place) h = h
+  of-text : (ty : ℕ) (wrong : Wrong) → wrong .place ≤ length s → (r : Reading) → Within s at r → ValueIn s at (elim r [ Whole end ↦ stringIn s at ty end wrong | Fault kind place ↦ Bad kind place ])
+  of-text ty wrong w (Whole end) h = string-in ty end wrong w h
+  of-text ty wrong w (Fault kind place) h = h
 
   number-held : (ty end : ℕ) (v : Value) → (at < end) × (end ≤ length s) → ValueIn s at (numberIn at ty end v)
   unfolding numberIn decimalHeld integerHeld
@@ -86,7 +94,7 @@ module _ (s : List ℕ) (at : ℕ) (l : at ≤ length s) where
 
   of-number : (ty : ℕ) (v : Value) (r : Reading) → ReadingIn s at r → ValueIn s at (elim r [ Whole end ↦ numberIn at ty end v | Fault kind place ↦ Bad kind place ])
   of-number ty v (Whole end) h = number-held ty end v h
-  of-number ty v (Fault kind place) h = h .2 l
+  of-number ty v (Fault kind place) h = h .1 l
 
   of-literal : (ty : ℕ) (r : Reading) → Within s at r → ValueIn s at (literalValue s at ty r)
   unfolding literalValue literalIn
@@ -97,7 +105,7 @@ module _ (s : List ℕ) (at : ℕ) (l : at ≤ length s) where
   pub value-in : (ty : ℕ) → ValueIn s at (valueAt s at ty)
   unfolding valueAt stringValue numberValue textRead
   value-in ty =
-      by-test (ValueIn s at) (eqb (byteAt s at) 34) _ _ (λ _. of-text ty _ (textAt s at) (text-within s at l))
+      by-test (ValueIn s at) (eqb (byteAt s at) 34) _ _ (λ _. of-text ty _ (wrong-within (textType ty) s at) (textAt s at) (text-within s at l))
       (λ _. by-test (ValueIn s at) (startsNumber (byteAt s at)) _ _ (λ _. of-number ty _ (numberAt s at .reading) (number-in s at))
       (λ _. by-test (ValueIn s at) (opens (byteAt s at)) _ _ (λ _. l) (λ _. of-literal ty (literalAt s at) (literal-within s at l))))
 

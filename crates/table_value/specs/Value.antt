@@ -12,6 +12,7 @@ use Rattle.json_chars.specs.Chars.{charsAt}
 use Rattle.json_text.specs.Text.{textRead}
 use Rattle.json_text.specs.declared.TextType.{TextType}
 use Rattle.json_text.specs.declared.TextType.the-variants.{Text, String, StringID}
+use Rattle.json_text.specs.declared.Wrong.{Wrong}
 use Rattle.json_text.specs.declared.TextRead.{TextRead}
 use Rattle.json_number.specs.Number.{numberAt, integerOf}
 use Rattle.json_number.specs.declared.Number.{Number}
@@ -29,32 +30,35 @@ use Rattle.table_value.specs.declared.ValueRead.the-variants.{Held, Null
 unfoldable pub textType : ℕ → TextType
 textType ty = cond (eqb ty 4) String (cond (eqb ty 5) StringID Text)
 
--- 16: a string rule broken, at the opening quote. The empty string, its two quotes alone, is null.
-unfoldable pub textHeld : ℕ → ℕ → ℕ → ValueRead
-textHeld at end rule = cond (ltb 0 rule) (Bad 16 at) (cond (eqb end (at + 2)) (Null end) (Held end))
+-- A string rule broken, document 02, order 4: "30 barred control, 31 whitespace, 32 outside the ID set, 33 unpaired
+-- surrogate. Place becomes the first byte of the first wrong character as written". The empty string, its two quotes
+-- alone, is null.
+unfoldable pub textHeld : ℕ → ℕ → Wrong → ValueRead
+textHeld at end wrong =
+    cond (ltb 0 (wrong .rule)) (Bad (29 + wrong .rule) (wrong .place)) (cond (eqb end (at + 2)) (Null end) (Held end))
 
 -- 17: not a valid date, at the opening quote; the empty string too
 unfoldable pub dateHeld : ℕ → ℕ → Date → ValueRead
 dateHeld at end (Day year month day) = Held end
 dateHeld at end NoDate = Bad 17 at
 
--- a string read whole in a field of another JSON kind is 15, never 16 to 18
-unfoldable pub stringIn : List ℕ → ℕ → ℕ → ℕ → ℕ → ValueRead
-stringIn s at ty end rule =
-    cond (within 4 6 ty) (textHeld at end rule) (cond (eqb ty 1) (dateHeld at end (dateOf (charsAt s at))) (Bad 15 at))
+-- a string read whole in a field of another JSON kind is 15, whatever its characters
+unfoldable pub stringIn : List ℕ → ℕ → ℕ → ℕ → Wrong → ValueRead
+stringIn s at ty end wrong =
+    cond (within 4 6 ty) (textHeld at end wrong) (cond (eqb ty 1) (dateHeld at end (dateOf (charsAt s at))) (Bad 15 at))
 
 unfoldable pub stringValue : List ℕ → ℕ → ℕ → TextRead → ValueRead
 stringValue s at ty t =
-    elim (t .reading) [ Whole end ↦ stringIn s at ty end (t .wrong .rule) | Fault kind place ↦ Bad kind place ]
+    elim (t .reading) [ Whole end ↦ stringIn s at ty end (t .wrong) | Fault kind place ↦ Bad kind place ]
 
--- ---- A number: 18 outside the limits, 15 for an Integer that isn't whole, each at its first byte
+-- ---- A number: 18 outside the limits, 34 for an Integer that isn't whole (document 02, order 4), each at its first byte
 unfoldable pub decimalHeld : ℕ → ℕ → Value → ValueRead
 decimalHeld at end (Fits negative c p15) = Held end
 decimalHeld at end Beyond = Bad 18 at
 
 unfoldable pub integerHeld : ℕ → ℕ → Integer → ValueRead
 integerHeld at end (Is negative magnitude) = Held end
-integerHeld at end Fraction = Bad 15 at
+integerHeld at end Fraction = Bad 34 at
 integerHeld at end TooLarge = Bad 18 at
 
 unfoldable pub numberIn : ℕ → ℕ → ℕ → Value → ValueRead

@@ -1,7 +1,7 @@
 // A value in a field of a type: where it ends and whether it is null, or the kind and place of its
 // fault. Types by number: 0 Boolean, 1 Date, 2 Decimal, 3 Integer, 4 String, 5 StringID, 6 Text.
 ghost use mathlib.Core.Path.{_≡_};
-ghost use Prim.Native.Nat.{_<_, _^_};
+ghost use Prim.Native.Nat.{_≤_, _<_, _^_};
 ghost use lib.ListN.{length};
 ghost use Rattle.json_bytes.specs.Reads.{literalAt};
 ghost use Rattle.json_text.specs.Text.{textRead};
@@ -19,6 +19,7 @@ use json_number::integer_of;
 use json_number::number_at;
 use json_text::TextRead;
 use json_text::TextType;
+use json_text::Wrong;
 use json_text::read_text;
 
 // A value read whole, the place behind it with it, or a fault.
@@ -40,15 +41,15 @@ fn text_type(ty: u32) -> TextType
     TextType::Text
 }
 
-// A string in a field of text, whose first broken rule is `rule`, 0 for none.
-fn text_held(at: usize, end: usize, rule: u32) -> ValueRead
-    requires { ⌜ at < 2 ^ 63 ⌝ }
-    ensures { λ r. ⌜ r ≡ textHeld at end rule ⌝ }
+// A string in a field of text: the rules 1 to 4 of its first wrong character are the kinds 30 to 33.
+fn text_held(at: usize, end: usize, wrong: Wrong) -> ValueRead
+    requires { ⌜ (at < 2 ^ 63) × (wrong .rule ≤ 4) ⌝ }
+    ensures { λ r. ⌜ r ≡ textHeld at end wrong ⌝ }
 {
-    if 0 < rule {
+    if 0 < wrong.rule {
         return ValueRead::Bad {
-            kind: 16,
-            place: at,
+            kind: 29 + wrong.rule,
+            place: wrong.place,
         };
     }
     if end == at + 2 {
@@ -73,12 +74,12 @@ fn date_held(at: usize, end: usize, date: Date) -> ValueRead
     }
 }
 
-fn string_in(s: &[u8], at: usize, ty: u32, end: usize, rule: u32) -> ValueRead
-    requires { ⌜ at < length (now s) ⌝ }
-    ensures { λ r. ⌜ r ≡ stringIn (now (s .entry)) at ty end rule ⌝ }
+fn string_in(s: &[u8], at: usize, ty: u32, end: usize, wrong: Wrong) -> ValueRead
+    requires { ⌜ (at < length (now s)) × (wrong .rule ≤ 4) ⌝ }
+    ensures { λ r. ⌜ r ≡ stringIn (now (s .entry)) at ty end wrong ⌝ }
 {
     if is_within(4, 6, ty) {
-        return text_held(at, end, rule);
+        return text_held(at, end, wrong);
     }
     if ty == 1 {
         return date_held(at, end, date_at(s, at));
@@ -95,9 +96,9 @@ fn string_value(s: &[u8], at: usize, ty: u32) -> ValueRead
 {
     let read = read_text(s, at, text_type(ty));
     let reading = read.reading;
-    let rule = read.wrong.rule;
+    let wrong = read.wrong;
     match reading {
-        Reading::Whole { end } => string_in(s, at, ty, end, rule),
+        Reading::Whole { end } => string_in(s, at, ty, end, wrong),
         Reading::Fault { kind, place } => ValueRead::Bad { kind, place },
     }
 }
@@ -127,7 +128,7 @@ fn integer_held(at: usize, end: usize, n: Integer) -> ValueRead
             magnitude: _,
         } => ValueRead::Held { end },
         Integer::Fraction => ValueRead::Bad {
-            kind: 15,
+            kind: 34,
             place: at,
         },
         Integer::TooLarge => ValueRead::Bad {

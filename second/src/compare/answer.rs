@@ -63,7 +63,7 @@ fn answer_text(bytes: &[u8], at: usize, kind: TextKind) -> Answer {
         Err(fault) => answer_fault(1, fault),
         Ok(string) => match first_breach(&string.characters, kind) {
             None => [0, string.end as u64, 0, 0],
-            Some(breach) => [0, string.end as u64, breach.rule.into(), breach.place as u64],
+            Some(breach) => [0, string.end as u64, breach.rule as u64, breach.place as u64],
         },
     }
 }

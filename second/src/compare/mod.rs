@@ -26,3 +26,5 @@ pub mod tables;
 mod white_space;
 #[clippy::msrv = "1.63"]
 pub mod wire;
+#[cfg(not(serve_only))]
+mod wrong_characters;

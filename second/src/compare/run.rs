@@ -43,6 +43,11 @@ pub trait Question: Sized + Sync {
         Vec::new()
     }
 
+    /// What no case may show.
+    fn ruled_out() -> Vec<Self::Sight> {
+        Vec::new()
+    }
+
     /// What this case and its right answer show.
     fn sights(&self, _expected: &Self::Answer) -> Vec<Self::Sight> {
         Vec::new()
@@ -231,13 +236,20 @@ fn how_to_ask_again(seed: u64, number: usize) -> String {
     format!("case {number} (--seed {seed} --only {number})")
 }
 
-/// Each wanted sight counts as a case of its own.
+/// Each sight that is wanted or ruled out counts as a case of its own.
 fn check_sights<Q: Question>(seen: &BTreeSet<Q::Sight>, tally: &mut Tally) {
     for wanted in Q::wanted() {
         if seen.contains(&wanted) {
             tally.passed += 1;
         } else {
             tally.fail(1, format!("no case shows this: {wanted}"));
+        }
+    }
+    for ruled_out in Q::ruled_out() {
+        if seen.contains(&ruled_out) {
+            tally.fail(1, format!("a case shows this, which can't be: {ruled_out}"));
+        } else {
+            tally.passed += 1;
         }
     }
 }
@@ -295,6 +307,7 @@ mod tests {
     fn each_number_of_a_reading_is_compared() {
         let contents = br#"[{"CustomFieldID":"F","Value":"V"}]"#.to_vec();
         let cases = [TableCase { number: 5, contents: Some(contents) }];
+        let one = Run { seed: 5, cases: &cases, only: Some(0) };
         let right = cases[0].answer();
         let spoil: [fn(&mut TableAnswer); 6] = [
             |answer| answer.kind = 11,
@@ -307,10 +320,10 @@ mod tests {
         for spoil in spoil {
             let mut wrong = right.clone();
             spoil(&mut wrong);
-            let tally = compare_answers(&all(&cases), |_| Some(wrong.clone()));
+            let tally = compare_answers(&one, |_| Some(wrong.clone()));
             assert_eq!(tally.last_line(), "0 passed, 1 failed");
         }
-        let tally = compare_answers(&all(&cases), |_| Some(right.clone()));
+        let tally = compare_answers(&one, |_| Some(right.clone()));
         assert_eq!(tally.last_line(), "1 passed, 0 failed");
     }
 
@@ -322,7 +335,8 @@ mod tests {
         assert_eq!(tally.last_line(), "1 passed, 3 failed");
     }
 
-    /// A case that shows its own number; 0, 1 and 2 are wanted.
+    /// A case that shows its own number; 0, 1 and 2 are wanted, 8 and 9 ruled
+    /// out.
     struct Shown(u32);
 
     impl Question for Shown {
@@ -355,6 +369,10 @@ mod tests {
             vec![0, 1, 2]
         }
 
+        fn ruled_out() -> Vec<u32> {
+            vec![8, 9]
+        }
+
         fn sights(&self, _: &()) -> Vec<u32> {
             vec![self.0]
         }
@@ -364,10 +382,18 @@ mod tests {
     fn a_missed_sight_fails() {
         let cases = [Shown(2), Shown(0), Shown(7)];
         let tally = compare_with_self(&all(&cases));
-        assert_eq!(tally.last_line(), "5 passed, 1 failed");
+        assert_eq!(tally.last_line(), "7 passed, 1 failed");
         assert_eq!(tally.messages, ["no case shows this: 1"]);
         let one = Run { seed: 5, cases: &cases, only: Some(0) };
         assert_eq!(compare_with_self(&one).last_line(), "1 passed, 0 failed");
+    }
+
+    #[test]
+    fn a_sight_that_is_ruled_out_fails() {
+        let cases = [Shown(1), Shown(9), Shown(2), Shown(0)];
+        let tally = compare_with_self(&all(&cases));
+        assert_eq!(tally.last_line(), "8 passed, 1 failed");
+        assert_eq!(tally.messages, ["a case shows this, which can't be: 9"]);
     }
 
     #[test]

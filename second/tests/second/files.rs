@@ -138,10 +138,10 @@ fn values_have_the_json_kind_of_their_type() {
             (br#"[{"Level":"1"}]"#, 15, 10),
             (br#"[{"Level":" \u0000"}]"#, 15, 10),
             (br#"[{"Level":false}]"#, 15, 10),
-            (br#"[{"Level":1.5}]"#, 15, 10),
+            (br#"[{"Level":1.5}]"#, 34, 10),
             (br#"[{"Level":1.5e-15}]"#, 18, 10),
             (br#"[{"Level":0.5e16}]"#, 18, 10),
-            (br#"[{"Level":1000000000000000e-16}]"#, 15, 10),
+            (br#"[{"Level":1000000000000000e-16}]"#, 34, 10),
             (br#"[{"Level":1000000000000001e-16}]"#, 18, 10),
             (br#"[{"Level":10000000000000000e-16,"TaskID":"T"}]"#, 0, 0),
             (br#"[{"Level":[1]}]"#, 15, 10),
@@ -166,20 +166,45 @@ fn string_rules_by_type() {
     marks(
         6,
         &[
-            ("[{\"ID\":\"é\"}]".as_bytes(), 16, 7),
-            (br#"[{"ID":"\u0000"}]"#, 16, 7),
-            (br#"[{"ID":"C1","Name":" N"}]"#, 16, 19),
-            (br#"[{"ID":"C1","Name":"N\t"}]"#, 16, 19),
-            (br#"[{"ID":"C1","Name":"N","Comments":"\ud800"}]"#, 16, 34),
-            (b"[{\"ID\":\"C1\",\"Name\":\"N\",\"Comments\":\"\x7F\"}]", 16, 34),
+            ("[{\"ID\":\"é\"}]".as_bytes(), 32, 8),
+            (br#"[{"ID":"\u0000"}]"#, 30, 8),
+            (br#"[{"ID":"C1","Name":" N"}]"#, 31, 20),
+            (br#"[{"ID":"C1","Name":"N\t"}]"#, 31, 21),
+            (br#"[{"ID":"C1","Name":"N","Comments":"\ud800"}]"#, 33, 35),
+            (b"[{\"ID\":\"C1\",\"Name\":\"N\",\"Comments\":\"\x7F\"}]", 30, 35),
             (b"[{\"ID\":\"C1\",\"Name\":\"N\t\"}]", 11, 21),
             ("[{\"ID\":\"C1\",\"Name\":\"é€\",\"Comments\":\" \\t\\n\\r \"}]".as_bytes(), 0, 0),
             (br#"[{"ID":"C1","Name":"\uD83D\uDE00"}]"#, 0, 0),
-            ("[{\"ID\":\"C1\",\"Name\":\"N\u{a0}1\"}]".as_bytes(), 16, 19),
-            (br#"[{"ID":"C1","Name":"N\u00a0"}]"#, 16, 19),
+            ("[{\"ID\":\"C1\",\"Name\":\"N\u{a0}1\"}]".as_bytes(), 31, 21),
+            (br#"[{"ID":"C1","Name":"N\u00a0"}]"#, 31, 21),
             (br#"[{"ID":"C1","Name":"N","Comments":"\u00a0\u2028"}]"#, 0, 0),
-            (br#"[{"ID":"C\u00a0"}]"#, 16, 7),
+            (br#"[{"ID":"C\u00a0"}]"#, 32, 9),
         ],
+    );
+}
+
+/// A string is read whole before its characters are judged, and judged before
+/// what follows it; a Date or a value of another JSON kind has no string rule.
+#[test]
+fn a_wrong_character_stands_in_reading_order() {
+    marks(
+        6,
+        &[
+            (br#"[{"ID":"  \x"}]"#, 11, 11),
+            (b"[{\"ID\":\"  \xFF\"}]", 10, 10),
+            (br#"[{"ID":"  "#, 11, 10),
+            (br#"[{"ID":"  " x"#, 31, 8),
+            (br#"[{"ID":"A\u0000","Name":" "}]"#, 30, 9),
+            (br#"[{"Name":" ","ID":"\u0000"}]"#, 31, 10),
+            (br#"[{"Name":" "}]"#, 31, 10),
+            (br#"[{"ID":"C1","Name":"N"},{"ID":" C2","Name":"N"}]"#, 31, 31),
+            (br#"[{" ID":"  "}]"#, 13, 2),
+        ],
+    );
+    marks(8, &[(br#"[{"ExceptionDate":" \u0000"}]"#, 17, 18)]);
+    marks(
+        7,
+        &[(br#"[{"SundayWorkHours":" \ud800"}]"#, 15, 20), (br#"[{"Ordinal":"\t"}]"#, 15, 12)],
     );
 }
 

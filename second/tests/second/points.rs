@@ -40,7 +40,8 @@ fn hours(number: &str) -> (u32, u32) {
 fn p3_an_integer_is_whole_by_value() {
     assert_eq!(level("10e-1"), (0, 0));
     assert_eq!(Set::empty().with(15, r#"[{"Level":10e-1,"TaskID":"T"}]"#).mark(78), (0, 0));
-    assert_eq!(level("0.5"), (15, 10));
+    // 15 in document 01; 34 since order 4.
+    assert_eq!(level("0.5"), (34, 10));
 }
 
 #[test]
@@ -93,7 +94,7 @@ fn p7_leap_days() {
 
 #[test]
 fn p8_two_spaces_break_string_and_not_text() {
-    assert_eq!(file_mark(2, br#"{"Data_SoftwareName":"A  B"}"#), (16, 21));
+    assert_eq!(file_mark(2, br#"{"Data_SoftwareName":"A  B"}"#), (31, 24));
     assert_eq!(file_mark(2, br#"{"Data_SoftwareComments":"A  B"}"#), (0, 0));
 }
 
@@ -103,6 +104,25 @@ fn software(name: &str, value: &str) -> (u32, u32) {
 
 fn calendar_id(id: &str) -> (u32, u32) {
     file_mark(6, format!(r#"[{{"ID":"{id}","Name":"N"}}]"#).as_bytes())
+}
+
+/// A mark with its place counted from a byte of the file, if it has one.
+fn counted_from(start: u32, (kind, place): (u32, u32)) -> (u32, u32) {
+    (kind, if kind == 0 { place } else { place - start })
+}
+
+/// The mark of a file with such a value; its place is counted from the byte
+/// after the value's opening quote.
+fn as_string(value: &str) -> (u32, u32) {
+    counted_from(22, software("Data_SoftwareName", value))
+}
+
+fn as_text(value: &str) -> (u32, u32) {
+    counted_from(26, software("Data_SoftwareComments", value))
+}
+
+fn as_id(value: &str) -> (u32, u32) {
+    counted_from(8, calendar_id(value))
 }
 
 /// The characters of the list, but for the space that may stand single and
@@ -115,32 +135,35 @@ const WHITE_CHARACTERS: [char; 19] = [
 
 #[test]
 fn order_2_a_string_has_no_whitespace_but_single_inner_spaces() {
-    let patterns = ["*", "*A", "A*B", "A*", "A**B", "A *B", "A* B"];
     for c in WHITE_CHARACTERS {
         let code = u32::from(c);
         for written in [c.to_string(), format!("\\u{code:04x}"), format!("\\u{code:04X}")] {
-            for pattern in patterns {
-                let value = pattern.replace('*', &written);
-                assert_eq!(software("Data_SoftwareName", &value), (16, 21), "{value}");
-                assert_eq!(software("Data_SoftwareComments", &value), (0, 0), "{value}");
-                assert_eq!(calendar_id(&value), (16, 7), "{value}");
+            for (front, back) in
+                [("", ""), ("", "A"), ("A", "B"), ("A", ""), ("A", "*B"), ("A ", "B"), ("A", " B")]
+            {
+                let value = format!("{front}*{back}").replace('*', &written);
+                let place = front.len() as u32;
+                assert_eq!(as_string(&value), (31, place), "{value}");
+                assert_eq!(as_text(&value), (0, 0), "{value}");
+                assert_eq!(as_id(&value), (32, place), "{value}");
             }
         }
     }
     for escape in ["\\t", "\\n", "\\r", "\\u0009", "\\u000a", "\\u000D"] {
         let value = format!("A{escape}B");
-        assert_eq!(software("Data_SoftwareName", &value), (16, 21), "{value}");
-        assert_eq!(software("Data_SoftwareComments", &value), (0, 0), "{value}");
-        assert_eq!(calendar_id(&value), (16, 7), "{value}");
+        assert_eq!(as_string(&value), (31, 1), "{value}");
+        assert_eq!(as_text(&value), (0, 0), "{value}");
+        assert_eq!(as_id(&value), (31, 1), "{value}");
     }
     // These two are barred, so Text takes them no more than the others.
     for escape in ["\\u000b", "\\u000C", "\\f"] {
         let value = format!("A{escape}B");
-        assert_eq!(software("Data_SoftwareName", &value), (16, 21), "{value}");
-        assert_eq!(software("Data_SoftwareComments", &value), (16, 25), "{value}");
+        assert_eq!(as_string(&value), (30, 1), "{value}");
+        assert_eq!(as_text(&value), (30, 1), "{value}");
+        assert_eq!(as_id(&value), (30, 1), "{value}");
     }
-    assert_eq!(software("Data_SoftwareName", "A B"), (0, 0));
-    assert_eq!(calendar_id("A B"), (0, 0));
+    assert_eq!(as_string("A B"), (0, 0));
+    assert_eq!(as_id("A B"), (0, 0));
 }
 
 #[test]
@@ -151,12 +174,94 @@ fn order_2_only_the_list_is_whitespace() {
     // The low 16 bits of the first three, and the low 8 of the others, are white.
     let alike = "\u{12000}\u{12028}\u{13000}\u{1f0a0}\u{120}\u{1a0}";
     for c in [beside, unseen, alike].concat().chars() {
-        assert_eq!(software("Data_SoftwareName", &format!("{c}A {c}{c}")), (0, 0), "{c:?}");
-        assert_eq!(calendar_id(&format!("A{c}")), (16, 7), "{c:?}");
+        assert_eq!(as_string(&format!("{c}A {c}{c}")), (0, 0), "{c:?}");
+        assert_eq!(as_id(&format!("A{c}")), (32, 1), "{c:?}");
     }
     for pair in ["\\uD808\\uDC00", "\\ud80c\\udc00", "\\uD83C\\uDCA0"] {
-        assert_eq!(software("Data_SoftwareName", pair), (0, 0), "{pair}");
+        assert_eq!(as_string(pair), (0, 0), "{pair}");
     }
+}
+
+#[test]
+fn order_4_a_wrong_space_is_at_an_end_or_after_another() {
+    for judged in [as_string, as_id] {
+        assert_eq!(judged("A B"), (0, 0));
+        assert_eq!(judged(r"A\u0020B"), (0, 0));
+        assert_eq!(judged(" A"), (31, 0));
+        assert_eq!(judged("A "), (31, 1));
+        assert_eq!(judged("A  "), (31, 2));
+        assert_eq!(judged("A  B"), (31, 2));
+        assert_eq!(judged(r"A\u0020 B"), (31, 7));
+        assert_eq!(judged(r"A \u0020B"), (31, 2));
+        assert_eq!(judged(r"\u0020A"), (31, 0));
+        assert_eq!(judged(r"A\u0020"), (31, 1));
+    }
+    assert_eq!(as_text(r"  A\u0020 "), (0, 0));
+}
+
+/// The numbers are the places in the whole file.
+#[test]
+fn order_4_the_place_is_the_first_byte_of_the_wrong_character() {
+    assert_eq!(file_mark(2, br#"{"Data_SoftwareName":"A  "}"#), (31, 24));
+    assert_eq!(file_mark(2, br#"{"Data_SoftwareName":" A"}"#), (31, 22));
+    assert_eq!(file_mark(2, br#"{"Data_SoftwareName":"A "}"#), (31, 23));
+    assert_eq!(file_mark(2, br#"{"Data_SoftwareName":"A\u0020 B"}"#), (31, 29));
+    assert_eq!(file_mark(2, br#"{"Data_SoftwareName":"A\u000B"}"#), (30, 23));
+    assert_eq!(file_mark(6, br#"[{"ID":"A\u00e9","Name":"N"}]"#), (32, 9));
+    assert_eq!(file_mark(2, br#"{"Data_SoftwareComments":"\ud800"}"#), (33, 26));
+}
+
+/// As Text, String and StringID.
+#[test]
+fn order_4_one_character_with_two_faults_takes_the_lower_kind() {
+    let kinds = |value: &str| [as_text(value), as_string(value), as_id(value)].map(|mark| mark.0);
+    assert_eq!(kinds(r"A\tB"), [0, 31, 31]);
+    assert_eq!(kinds(r"A\u000BB"), [30, 30, 30]);
+    assert_eq!(kinds("A\u{7f}B"), [30, 30, 30]);
+    assert_eq!(kinds("A\u{a0}B"), [0, 31, 32]);
+    assert_eq!(kinds(r"A\u00a0B"), [0, 31, 32]);
+    assert_eq!(kinds("A\u{e9}B"), [0, 0, 32]);
+    assert_eq!(kinds(r"A\uD800B"), [33, 33, 32]);
+    assert_eq!(kinds(r"A\uDC00B"), [33, 33, 32]);
+    assert_eq!(kinds(r"A\uD83D\uDE00B"), [0, 0, 32]);
+}
+
+#[test]
+fn order_4_the_first_wrong_character_counts() {
+    // Behind a character of four bytes.
+    assert_eq!(as_string("\u{1f600}  B"), (31, 5));
+    assert_eq!(as_string("\u{1f600}\u{a0}"), (31, 4));
+    assert_eq!(as_text("\u{1f600}\u{7f}"), (30, 4));
+    assert_eq!(as_text("\u{1f600}\\ud800"), (33, 4));
+    assert_eq!(as_string(r"\uD83D\uDE00\t"), (31, 12));
+    // The last one before the closing quote.
+    assert_eq!(as_string("AB\u{a0}"), (31, 2));
+    assert_eq!(as_text(r"AB\u0000"), (30, 2));
+    assert_eq!(as_id("AB\u{1f600}"), (32, 2));
+    assert_eq!(as_string(r"AB\ud800"), (33, 2));
+    // One behind another, of a lower kind or a higher one.
+    assert_eq!(as_string(r"A  \u0000"), (31, 2));
+    assert_eq!(as_string(r"A\u0000  B"), (30, 1));
+    assert_eq!(as_text(r"A\uD800\u0000"), (33, 1));
+    assert_eq!(as_text(r"A\u0000\uD800"), (30, 1));
+    assert_eq!(as_id("A\u{e9} "), (32, 1));
+    assert_eq!(as_id("A  \u{e9}"), (31, 2));
+    assert_eq!(as_text(r"A\t \u0000"), (30, 4));
+}
+
+#[test]
+fn order_4_a_number_that_is_not_whole_is_34_and_no_number_15() {
+    assert_eq!(level("0.5"), (34, 10));
+    assert_eq!(level("-15e-1"), (34, 10));
+    assert_eq!(level("1.0"), (0, 0));
+    assert_eq!(level("1e-16"), (18, 10));
+    assert_eq!(level(r#""x""#), (15, 10));
+    assert_eq!(level(r#"" ""#), (15, 10));
+    assert_eq!(level("true"), (15, 10));
+    assert_eq!(level("[0.5]"), (15, 10));
+    assert_eq!(hours("0.5"), (0, 0));
+    assert_eq!(hours(r#""0.5""#), (15, 37));
+    assert_eq!(file_mark(2, br#"{"Data_SoftwareName":0.5}"#), (15, 21));
 }
 
 fn calendars(ids: [&str; 2]) -> Set {

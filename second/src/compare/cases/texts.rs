@@ -5,6 +5,7 @@ use crate::compare::case::TEXT;
 use crate::compare::white_space::{
     placed, white_in_low_bits, writings, BESIDE, UNLISTED, WHITE_SPACE,
 };
+use crate::compare::wrong_characters::EXAMPLES;
 
 /// The text kind that takes the whole White_Space list for whitespace.
 const STRING: usize = 1;
@@ -20,6 +21,7 @@ pub(super) fn add(cases: &mut Cases) {
     add_pairs_of_white_space(cases);
     add_white_in_low_bits(cases);
     add_each_code(cases);
+    add_examples(cases);
 }
 
 /// Both sides of each line of the string rules.
@@ -126,4 +128,13 @@ fn add_code(cases: &mut Cases, code: u32) {
     let style = cases.random.pick(&STYLES);
     let inner = joined(&[b"a", &written(code, style), b"b"]);
     cases.push(TEXT, 0, STRING, &quoted(&inner), &[]);
+}
+
+/// The strings of order 4, at the start and behind other bytes.
+fn add_examples(cases: &mut Cases) {
+    for example in &EXAMPLES {
+        let string = example.quoted();
+        cases.text_by_each_kind(0, &string);
+        cases.text_by_each_kind(3, &joined(&[b"[\"\\", &string, b"\""]));
+    }
 }

@@ -248,6 +248,10 @@ impl Question for GateCase {
         sights::wanted()
     }
 
+    fn ruled_out() -> Vec<Sight> {
+        sights::ruled_out()
+    }
+
     fn sights(&self, expected: &Answer) -> Vec<Sight> {
         sights::sights_of(self, expected)
     }

@@ -7,7 +7,7 @@ use super::answer::Answer;
 use super::case::{Call, Change, GateCase, JUDGE, LENT, LOOK_UP, MAKE, TRY};
 use crate::board::{Board, HOLDS};
 use crate::bundle::{file_state, FileState, FILES};
-use crate::compare::tables::possible_kinds;
+use crate::compare::tables::{possible_kinds, GIVEN_NO_MORE};
 use crate::gate::touched_marks;
 use crate::rules::{files_read, FIRST_RULE, LAST_RULE};
 use crate::table::is_singleton;
@@ -94,6 +94,11 @@ pub(super) fn wanted() -> Vec<Sight> {
     }
     wanted.extend(wanted_refusals());
     wanted
+}
+
+/// What no case may show.
+pub(super) fn ruled_out() -> Vec<Sight> {
+    (0..FILES).map(|number| Sight::File { number, kind: GIVEN_NO_MORE }).collect()
 }
 
 fn wanted_changes(number: usize) -> [Sight; 4] {
@@ -226,9 +231,10 @@ mod tests {
                 assert!(wanted.contains(&Sight::NotJudged { mark, file }));
             }
         }
-        for kind in 10..=22 {
+        for kind in (10..=22).chain(30..=34).filter(|kind| *kind != GIVEN_NO_MORE) {
             assert!((0..20).any(|number| wanted.contains(&Sight::File { number, kind })));
         }
+        assert!(!ruled_out().iter().any(|sight| wanted.contains(sight)));
         for refusal in 1..=6 {
             assert!(wanted.contains(&Sight::Refusal { op: MAKE, refusal }));
         }

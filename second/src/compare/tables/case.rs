@@ -1,9 +1,9 @@
 //! A case of the reading of one file and its answer as bytes between two
 //! programs, and what this program answers.
 
-use std::convert::Infallible;
 use std::io::{self, Read, Write};
 
+use super::sights::{self, Sight};
 use crate::board::{Mark, HOLDS};
 use crate::compare::run::{hex, Question};
 use crate::compare::wire::{
@@ -61,7 +61,7 @@ impl TableAnswer {
 
 impl Question for TableCase {
     type Answer = TableAnswer;
-    type Sight = Infallible;
+    type Sight = Sight;
 
     /// Three little-endian 32-bit numbers (the file's number, 1 if it is
     /// present, its length), then its bytes.
@@ -125,6 +125,18 @@ impl Question for TableCase {
         ];
         lines.extend(self.describe_cell(expected, answered));
         lines.join("\n")
+    }
+
+    fn wanted() -> Vec<Sight> {
+        sights::wanted()
+    }
+
+    fn ruled_out() -> Vec<Sight> {
+        sights::ruled_out()
+    }
+
+    fn sights(&self, expected: &TableAnswer) -> Vec<Sight> {
+        sights::sights_of(self, expected.kind, expected.place)
     }
 }
 

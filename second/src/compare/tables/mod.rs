@@ -10,6 +10,11 @@ use crate::table::is_singleton;
 pub mod case;
 #[cfg(not(serve_only))]
 pub mod cases;
+#[cfg(not(serve_only))]
+mod sights;
+
+/// Until order 4 the kind of every broken string rule; no mark has it since.
+pub const GIVEN_NO_MORE: u32 = 16;
 
 /// The kinds that the mark of that file can have, 0 among them.
 pub fn possible_kinds(number: usize) -> BTreeSet<u32> {
@@ -17,7 +22,7 @@ pub fn possible_kinds(number: usize) -> BTreeSet<u32> {
         return BTreeSet::from([0, 21, 22]);
     }
     let has_type = |types: &[Type]| fields_of(number).any(|field| types.contains(&field.kind));
-    let mut kinds: BTreeSet<u32> = (10..=16).chain([0]).collect();
+    let mut kinds: BTreeSet<u32> = (10..=15).chain([0]).collect();
     let others = [
         (17, has_type(&[Type::Date])),
         (18, has_type(&[Type::Decimal, Type::Integer])),
@@ -25,6 +30,12 @@ pub fn possible_kinds(number: usize) -> BTreeSet<u32> {
         // 4,096 records of file 10 are longer than a file may be.
         (20, !is_singleton(number) && number != 10),
         (21, [1, 3].contains(&number)),
+        (30, has_type(&[Type::String, Type::StringID, Type::Text])),
+        (31, has_type(&[Type::String, Type::StringID])),
+        (32, has_type(&[Type::StringID])),
+        // In a StringID half a pair is outside the ID set as well: 32.
+        (33, has_type(&[Type::String, Type::Text])),
+        (34, has_type(&[Type::Integer])),
     ];
     kinds.extend(others.iter().filter(|(_, possible)| *possible).map(|(kind, _)| kind));
     kinds

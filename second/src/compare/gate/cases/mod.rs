@@ -19,6 +19,7 @@ mod sizes;
 mod targets;
 mod unread;
 mod white_space;
+mod wrong_characters;
 
 use std::sync::Arc;
 
@@ -39,6 +40,7 @@ pub fn all_cases(seed: u64) -> Vec<GateCase> {
     outline::add(&mut cases);
     unread::add(&mut cases);
     white_space::add(&mut cases);
+    wrong_characters::add(&mut cases);
     mutated::add(&mut cases);
     files::add(&mut cases);
     long::add(&mut cases);
@@ -148,7 +150,7 @@ fn random_mark(random: &mut Random) -> Mark {
     let kind = match random.below(8) {
         0 => random.next_number() as u32,
         1 => u32::MAX,
-        _ => random.below(24) as u32,
+        _ => random.below(36) as u32,
     };
     let place = match random.below(4) {
         0 => random.next_number() as u32,

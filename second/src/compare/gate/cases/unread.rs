@@ -98,7 +98,9 @@ fn spoilt_values(field: &Field) -> &'static [&'static [u8]] {
         Type::Integer => {
             &[b"0.5", b"1e15", b"\"1\"", b"true", b"1000000000000000", b"10000000000000000e-17"]
         }
-        Type::String => &[b"\" x\"", b"\"a  b\"", b"1", b"\"\\ud800\"", b"\"a\\tb\""],
+        Type::String => {
+            &[b"\" x\"", b"\"a  b\"", b"1", b"\"\\ud800\"", b"\"a\\tb\"", b"\"\\u000b\""]
+        }
         Type::StringID => &[b"\"\xC3\xA9\"", b"\"x \"", b"{}", b"\"\\u007f\"", b"\"\xFF\""],
         Type::Text => &[b"\"\\u0000\"", b"\"a\nb\"", b"false", b"\"\\udc00\""],
     }
@@ -156,7 +158,8 @@ mod tests {
                 let set = base.with_value(table, 0, field.name, Some(value));
                 let shown = String::from_utf8_lossy(value);
                 let kind = judge(&set.bundle()).board.marks[table].kind;
-                assert!((10..=18).contains(&kind), "{} {shown}", field.name);
+                let of_value = [10, 11, 15, 17, 18].contains(&kind) || (30..=34).contains(&kind);
+                assert!(of_value, "{} {shown}", field.name);
             }
         }
     }

@@ -9,7 +9,8 @@ use crate::compare::gate::set_draft::{places, SetDraft};
 use crate::compare::white_space::{
     placed, white_in_low_bits, writings, BESIDE, UNLISTED, WHITE_SPACE,
 };
-use crate::fields::{Field, Type, FIELDS};
+use crate::compare::wrong_characters::has_string_rule;
+use crate::fields::{Field, FIELDS};
 
 pub(super) fn add(cases: &mut Cases) {
     for field in FIELDS.iter().filter(|field| has_string_rule(field.kind)) {
@@ -18,10 +19,6 @@ pub(super) fn add(cases: &mut Cases) {
         }
     }
     add_task_names(cases);
-}
-
-fn has_string_rule(kind: Type) -> bool {
-    matches!(kind, Type::String | Type::StringID | Type::Text)
 }
 
 /// A white character in a field of one record, and one that isn't white.
@@ -50,7 +47,7 @@ fn somewhere(cases: &mut Cases, code: u32) -> Vec<u8> {
 }
 
 /// The file comes into the accepted set, or the accepted one in its place.
-fn add_as_change(cases: &mut Cases, number: usize, set: &SetDraft) {
+pub(super) fn add_as_change(cases: &mut Cases, number: usize, set: &SetDraft) {
     let right = cases.base.clone();
     let (before, after) = cases.random.pick(&[(&right, set), (set, &right)]);
     let board = random_board(&mut cases.random);
@@ -96,7 +93,7 @@ mod tests {
         let base = cases().base;
         let with =
             |name| judge(&base.with_value(9, 2, name, Some(b"\"A\xC2\xA0B\"")).bundle()).board;
-        assert_eq!(with("Name").marks[9].kind, 16);
+        assert_eq!(with("Name").marks[9].kind, 31);
         assert_eq!(with("Name").faults().count(), 19);
         assert!(with("Comments").is_accepted());
     }
@@ -107,7 +104,8 @@ mod tests {
         for white in WHITE_SPACE.into_iter().filter(|code| *code != 0x20) {
             let value = somewhere(&mut cases, white);
             let set = cases.base.with_value(6, 1, "Name", Some(&value));
-            assert_eq!(judge(&set.bundle()).board.marks[6].kind, 16, "{white:x}");
+            let kind = if [0x0B, 0x0C].contains(&white) { 30 } else { 31 };
+            assert_eq!(judge(&set.bundle()).board.marks[6].kind, kind, "{white:x}");
         }
         for other in white_in_low_bits() {
             let value = [b"\"", &writings(other)[0][..], b"\""].concat();

@@ -24,7 +24,7 @@ pub(super) fn add(cases: &mut Cases) {
 }
 
 /// The field is the last of few, or one of all.
-fn add_value_in_field(cases: &mut Cases, field: &Field, value: &[u8]) {
+pub(super) fn add_value_in_field(cases: &mut Cases, field: &Field, value: &[u8]) {
     let number = cases.random.below(50);
     let base = match cases.random.below(4) {
         0 => Draft::full(field.table, number),
@@ -33,8 +33,8 @@ fn add_value_in_field(cases: &mut Cases, field: &Field, value: &[u8]) {
     cases.somewhere(field.table, &base.with_value(field.name, value));
 }
 
-/// Values that give kinds 10, 11 and 15 to 19 in some field.
-const SPOILT: [&[u8]; 36] = [
+/// Values that give kinds 10, 11, 15, 17 to 19 and 30 to 34 in some field.
+const SPOILT: [&[u8]; 39] = [
     b"\"A\xFF\"",
     b"\"\xC3\"",
     b"\"\xED\xA0\x80\"",
@@ -59,6 +59,9 @@ const SPOILT: [&[u8]; 36] = [
     b"\"A\xC2\xA0B\"",
     b"\"\\u3000\"",
     b"\"\\uD800\"",
+    b"\"A\x7F\"",
+    b"\"A\\u0020 B\"",
+    b"\"\xF0\x9F\x98\x80 \"",
     b"\"\xC3\xA9\"",
     b"\"2016-02-30\"",
     b"\"2016-01-31\"",

@@ -93,6 +93,9 @@ fn add_most_bytes(cases: &mut Cases) {
     let long = b"a".repeat(LONGEST - front.len() - 2);
     cases.file(2, &joined(&[front, &long, b"\"}"]));
     cases.file(2, &joined(&[front, &long, b"\"."]));
+    // The last character is a wrong one.
+    cases.file(2, &joined(&[front, &long[1..], b"\x7F\"}"]));
+    cases.file(2, &joined(&[front, &long[6..], b"\\uD800\"}"]));
 }
 
 /// A number that nearly fills the file with zeros, after its point or before.
@@ -139,7 +142,17 @@ fn add_long_strings(cases: &mut Cases) {
     ];
     for piece in pieces {
         let long = piece.repeat(LONG / piece.len());
-        for end in [&b"A\""[..], b"", b"\xFF\"", b"\\", b" \"", b"\xE3\x80\x80\""] {
+        let cut: [&[u8]; 3] = [b"", b"\xFF\"", b"\\"];
+        let whole: [&[u8]; 7] = [
+            b"A\"",
+            b" \"",
+            b"\xE3\x80\x80\"",
+            b"\xC3\xA9\"",
+            b"\\u0000\"",
+            b"\x7FA\"",
+            b"\\uDC00\"",
+        ];
+        for end in cut.into_iter().chain(whole) {
             add_long_string(cases, &joined(&[b"\"", &long, end]));
         }
     }

@@ -11,6 +11,7 @@ mod names;
 mod spaces;
 mod values;
 mod whole;
+mod wrong_characters;
 
 use self::draft::{text, Draft, FOUR_SPACES};
 use super::case::TableCase;
@@ -27,6 +28,7 @@ pub fn all_cases(seed: u64) -> Vec<TableCase> {
     kinds::add(&mut cases);
     names::add(&mut cases);
     limits::add(&mut cases);
+    wrong_characters::add(&mut cases);
     damage::add(&mut cases);
     large::add(&mut cases);
     mixed::add(&mut cases);
