@@ -1,0 +1,4 @@
+pub mod Stands
+pub mod Unicode
+pub mod Strings
+pub mod Decimals

@@ -1,0 +1,72 @@
+-- What each shape of rule asks of one record, in document 01's words, and what a rule's answer says of all of them.
+-- Records are counted from 0 here; an answer counts them from 1, and is 0 where no record breaks the rule.
+use Prim.Native.Nat.{ℕ, _+_, _≤_, _<_}
+use mathlib.Core.Path.{_≡_}
+use mathlib.Core.Bool.{true, false}
+use mathlib.Core.Logic.{_↔_}
+use mathlib.Core.List.{List}
+use Rattle.json_number.specs.declared.Integer.the-variants.{Is}
+use Rattle.rule_cells.specs.Cells.{Table, isGiven, sameText, isWord, integerIn}
+use Rattle.rule_when.specs.When.{isValue, holdsWhen}
+use Rattle.rule_when.specs.declared.When.{When}
+use Rattle.rule_outline.specs.Outline.{parentOf}
+
+-- ---- "Kind 1: broken, place the first breaking record", of n records
+pub record Answers (Keeps : ℕ → Type 0) (n answer : ℕ) : Type 0 where
+  pub holds : (answer ≡ 0) ↔ ((r : ℕ) → r < n → Keeps r)
+  pub breaks : (r : ℕ) → (answer ≡ r + 1) ↔ ((r < n) × (Keeps r → ⊥) × ((j : ℕ) → j < r → Keeps j))
+
+-- ---- One field of a record
+-- field k holds a value: it is not absent, null or empty
+abbrev pub Given : Table → ℕ → ℕ → Type 0
+Given t k r = isGiven (t .cells) (t .width) r k ≡ true
+
+-- the record meets the condition of a rule: always, a field given, a field true, or a field that is one of two values
+abbrev pub Meets : Table → When → List ℕ → List ℕ → ℕ → Type 0
+Meets t w places texts r = holdsWhen t r w places texts ≡ true
+
+-- marks 36 to 47: a value is one of the n values of its enumeration, of which v is the first; "Null holds."
+abbrev pub HasItsValue : Table → ℕ → ℕ → ℕ → List ℕ → List ℕ → ℕ → Type 0
+HasItsValue t k v n places texts r = Given t k r → (j : ℕ) × (j < n) × (isValue t r k places texts (v + j) ≡ true)
+
+-- marks 65, 66, 72 and 76: the field is null unless the condition holds
+abbrev pub IsNullUnless : Table → ℕ → When → List ℕ → List ℕ → ℕ → Type 0
+IsNullUnless t k w places texts r = (Meets t w places texts r → ⊥) → Given t k r → ⊥
+
+-- mark 71: the field is given if the condition holds
+abbrev pub IsGivenIf : Table → ℕ → When → List ℕ → List ℕ → ℕ → Type 0
+IsGivenIf t k w places texts r = Meets t w places texts r → Given t k r
+
+-- mark 77: the field is given unless the condition holds
+abbrev pub IsGivenUnless : Table → ℕ → When → List ℕ → List ℕ → ℕ → Type 0
+IsGivenUnless t k w places texts r = (Meets t w places texts r → ⊥) → Given t k r
+
+-- marks 48 to 64, and 67, 73 and 74: some record of the target table has the record's value; "Null holds."
+abbrev pub HasItsTarget : Table → ℕ → When → Table → ℕ → List ℕ → List ℕ → ℕ → Type 0
+HasItsTarget t k w u m places texts r =
+    Given t k r → Meets t w places texts r → (q : ℕ) × (q < u .records) × (sameText t r k u q m ≡ true)
+
+-- ---- The outline
+-- the Level of record r is the whole number l
+abbrev pub HasLevel : Table → ℕ → ℕ → ℕ → Type 0
+HasLevel t level r l = integerIn t r level ≡ Is false l
+
+-- mark 78: "first Level 1, every Level at least 1, each at most one more than the one before". A Level that is at least 1 is at
+-- most one more than the one before only where that one is not below zero, and so a whole number itself.
+pub record KeepsRun (t : Table) (level r : ℕ) : Type 0 where
+  pub l : ℕ
+  pub here : HasLevel t level r l
+  pub least : 1 ≤ l
+  pub first : r ≡ 0 → l ≡ 1
+  pub later : (q : ℕ) → r ≡ q + 1 → (b : ℕ) × HasLevel t level q b × (l ≤ b + 1)
+
+-- mark 79: "Level 1 has null ParentTaskID; any other has the TaskID of its parent ..; broken if there is no such record". What a
+-- parent is, rule_outline says: the nearest earlier record of lower Level.
+pub record HasItsParent (t : Table) (level task parent r : ℕ) : Type 0 where
+  pub top : HasLevel t level r 1 → Given t parent r → ⊥
+  pub other : (HasLevel t level r 1 → ⊥) → (q : ℕ) × (parentOf t level r ≡ q + 1) × Given t parent r × (sameText t r parent t q task ≡ true)
+
+-- mark 80: "for each record with Level other than 1 and a parent, some task with the parent's TaskID is SUMMARY", which the word is
+abbrev pub ParentIsTyped : Table → ℕ → ℕ → Table → ℕ → ℕ → List ℕ → ℕ → Type 0
+ParentIsTyped t level task u id type word r =
+    (HasLevel t level r 1 → ⊥) → (q : ℕ) → parentOf t level r ≡ q + 1 → (x : ℕ) × (x < u .records) × (sameText t q task u x id ≡ true) × (isWord u x type word ≡ true)

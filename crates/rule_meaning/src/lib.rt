@@ -1,0 +1,1 @@
+// What the rules mean is definitions and their laws alone: the rules' own crates have the code.
