@@ -1,0 +1,1 @@
+// The cells of a file beside its objects are definitions and laws alone.

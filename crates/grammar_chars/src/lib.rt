@@ -1,0 +1,1 @@
+// The readers of characters beside the grammar are laws alone.

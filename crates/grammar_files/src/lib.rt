@@ -1,0 +1,1 @@
+// The reading of files beside the grammar is laws alone.

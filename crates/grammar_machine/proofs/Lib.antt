@@ -1,0 +1,9 @@
+pub mod Machine
+pub mod Language
+pub mod Run
+pub mod Complete
+pub mod More
+pub mod Places
+pub mod Tokens
+pub mod Facts
+pub mod Cases

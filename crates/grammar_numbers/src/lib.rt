@@ -1,0 +1,1 @@
+// The number reader beside the grammar is laws alone.
