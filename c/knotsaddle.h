@@ -5,8 +5,8 @@
  * that is not null), and a list that is written to must not overlap any other list of the same call. The library was
  * checked under these conditions, and can't check them itself. Nothing is allocated and nothing is kept between calls.
  *
- * knotsaddle_judge, knotsaddle_try and knotsaddle_make need some 3.3 MB of stack. For a small stack each has a counterpart,
- * whose name ends in _in: it does the same in a workspace that is lent to it, and needs some 36 KB. The other calls need
+ * knotsaddle_judge, knotsaddle_try and knotsaddle_make need some 3.2 MB of stack. For a small stack each has a counterpart,
+ * whose name ends in _in: it does the same in a workspace that is lent to it, and needs some 29 KB. The other calls need
  * less.
  *
  * A board is two lists of KNOTSADDLE_MARKS: the kinds and the places of the marks, in document 01's order. Kind 0: the

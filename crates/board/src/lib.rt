@@ -1,6 +1,14 @@
-// The board: 81 kinds and 81 places.
+// The board of document 01: 81 kinds and 81 places.
 ghost use mathlib.Core.Path.{_≡_};
-ghost use Rattle.board.specs.Board.{freshBoard, faultsOf, isAccepted};
+ghost use mathlib.Core.Bool.{cond};
+ghost use mathlib.Core.List.{_++_};
+ghost use Prim.Native.Nat.{_≤_};
+ghost use lib.ListN.{length, drop};
+ghost use lib.Dec.{leb};
+ghost use Rattle.report.specs.Report.{reportOf};
+ghost use Rattle.board.specs.Board.{marksOn, freshBoard, faultsOf, acceptedBoard};
+use mark_numbers::count_faults;
+use report::report;
 
 pub struct Board {
     pub kinds: [u32; 81],
@@ -18,26 +26,28 @@ pub fn fresh() -> Board
 }
 
 // How many marks don't hold.
-pub fn count_faults(board: Board) -> usize
+pub fn faults_on(board: Board) -> usize
     ensures { λ r. ⌜ r ≡ faultsOf board ⌝ }
 {
     let kinds = board.kinds;
-    let mut found = 0;
-    let mut m = 0;
-    while m < 81 {
-        if kinds[m] == 0 {
-            m += 1;
-        } else {
-            found += 1;
-            m += 1;
-        }
-    }
-    found
+    count_faults(&kinds)
 }
 
 // A set is accepted if all of its marks hold.
 pub fn is_accepted(board: Board) -> bool
-    ensures { λ r. ⌜ r ≡ isAccepted board ⌝ }
+    ensures { λ r. ⌜ r ≡ acceptedBoard board ⌝ }
 {
-    count_faults(board) == 0
+    faults_on(board) == 0
+}
+
+// Writes the text of a refusal, or with none that of a board, to the front of an output of at least
+// 4,096 bytes, which holds every such text; answers its length.
+pub fn report_board(refusal: u32, board: Board, out: &mut [u8]) -> usize
+    ensures { λ r. ⌜ r ≡ cond (leb 4096 (length (now (out .entry)))) (length (reportOf refusal (marksOn board))) 0 ⌝ }
+    ensures { λ _. ⌜ now (out .exit) ≡ cond (leb 4096 (length (now (out .entry)))) (reportOf refusal (marksOn board) ++ drop (length (reportOf refusal (marksOn board))) (now (out .entry))) (now (out .entry)) ⌝ }
+    ensures { λ r. ⌜ r ≤ length (now (out .entry)) ⌝ }
+{
+    let kinds = board.kinds;
+    let places = board.places;
+    report(refusal, &kinds, &places, out)
 }

@@ -12,10 +12,10 @@ use lib.ListN.{length, take, drop, length-append, take-append-drop}
 use lib.Seq.{length-take-le, take-at, drop-append-add, drop-drop}
 use lib.Dec.{ltb, eqb}
 use Rattle.json_bytes.proofs.Laws.{by-test}
-use Rattle.table_fields.specs.Flat.{partOf}
-use Rattle.table_fields.proofs.Laws.{part-is}
+use Rattle.parts.specs.Part.{partOf}
+use Rattle.parts.proofs.Laws.{part-is}
 use Rattle.bundle_bytes.specs.Words.{wordAt, wordOf}
-use Rattle.bundle_bytes.specs.Files.{File, Left, Given, isPresent, bytesOf, newFile}
+use Rattle.parts.specs.Files.{File, Left, Given, isPresent, bytesOf, newFile}
 use Rattle.bundle_bytes.specs.Pieces.{joined, startOf, written}
 use Rattle.bundle_bytes.proofs.Laws.{Bytes, word-past, word-small, word-length, changed-same, changed-other, written-back, written-behind, joined-next, start-next, joined-length, start-end}
 use Rattle.bundle_layout.specs.Bundle.{headerSize, offsetAt, lengthAt, isOmitted, endOf, standsRight, laidOutFrom, laidOut, bundleFault, partAt, fileAt, piecesOf, entryOf, headerOf, bundleOf, bundleLength}

@@ -3,7 +3,7 @@ use Prim.Native.Nat.{ℕ}
 use mathlib.Core.Bool.{cond}
 use mathlib.Core.List.{List}
 use lib.Dec.{eqb}
-use Rattle.bundle_bytes.specs.Files.{File}
+use Rattle.parts.specs.Files.{File}
 use Rattle.bundle_layout.specs.Bundle.{isOmitted, lookupFault, bundleLength}
 use Rattle.bundle_layout.specs.Change.{filesAfter, tryFault, makeFault}
 use Rattle.bundle.specs.declared.FileState.{FileState}

@@ -8,14 +8,14 @@ ghost use lib.ListN.{length, take, drop};
 ghost use lib.Dec.{eqb};
 ghost use Rattle.bundle_bytes.specs.Words.{wordAt, wordOf};
 ghost use Rattle.bundle_bytes.specs.Pieces.{joined, written};
-ghost use Rattle.bundle_bytes.specs.Files.{isPresent, bytesOf, newFile};
+ghost use Rattle.parts.specs.Files.{isPresent, bytesOf, newFile};
 ghost use Rattle.bundle_layout.specs.Bundle.{headerSize, offsetAt, lengthAt, isOmitted, laidOut, bundleFault, lookupFault, partAsked, fileAt, piecesOf, headerOf, bundleLength};
 ghost use Rattle.bundle_layout.specs.Change.{filesAfter, output};
 ghost use Rattle.bundle.specs.Answers.{stateAsked, triedBundle, madeBundle};
 use bundle_bytes::put_part;
 use bundle_bytes::put_word;
 use bundle_bytes::word_at;
-use table_fields::part;
+use parts::part;
 
 // What a file asked for by number is; a refusal has its number.
 pub enum FileState {
@@ -41,13 +41,13 @@ fn number_at(s: &[u8], at: usize, k: usize) -> usize
     word_at(s, at + 8 * k) as usize
 }
 
-fn offset_at(s: &[u8], k: usize) -> usize
+pub fn offset_at(s: &[u8], k: usize) -> usize
     ensures { λ r. ⌜ r ≡ offsetAt (now (s .entry)) k ⌝ }
 {
     number_at(s, 4, k)
 }
 
-fn length_at(s: &[u8], k: usize) -> usize
+pub fn length_at(s: &[u8], k: usize) -> usize
     ensures { λ r. ⌜ r ≡ lengthAt (now (s .entry)) k ⌝ }
 {
     number_at(s, 8, k)

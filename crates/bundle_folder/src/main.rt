@@ -3,9 +3,9 @@ use folder::argument;
 use folder::gather;
 use folder::write_opened;
 use libc::STDOUT_FILENO;
+use parts::part;
 use program_io::complain;
 use program_io::print;
-use table_fields::part;
 
 fn write_bundle(name: &[u8], bundle: &[u8]) {
     if write_opened(os::open_overwrite(name), name, bundle) {

@@ -12,10 +12,10 @@ use lib.ListN.{length, take, drop, length-append, length-drop}
 use lib.Seq.{length-take-le}
 use lib.Dec.{ltb, eqb}
 use Rattle.json_bytes.proofs.Laws.{by-test, both-left, both-right}
-use Rattle.table_fields.proofs.Laws.{part-is}
+use Rattle.parts.proofs.Laws.{part-is}
 use Rattle.bundle_bytes.specs.Words.{wordAt, wordOf}
 use Rattle.bundle_bytes.specs.Pieces.{joined, startOf, changed}
-use Rattle.bundle_bytes.specs.Files.{File, Left, Given, isPresent, bytesOf}
+use Rattle.parts.specs.Files.{File, Left, Given, isPresent, bytesOf}
 use Rattle.bundle_bytes.proofs.Laws.{word-length, joined-length, startOf-same, start-changed}
 use Rattle.bundle_layout.specs.Bundle.{headerSize, offsetAt, lengthAt, isOmitted, endOf, standsRight, laidOutFrom, laidOut, bundleFault, partAt, fileAt, lookupFault, piecesOf, entryOf, headerOf, bundleOf, bundleLength}
 use Rattle.bundle_layout.specs.Change.{filesAfter, tryFault, makeFault}

@@ -12,10 +12,10 @@ use lib.ListN.{length, take, drop, length-append, length-drop}
 use lib.Seq.{take-nil, take-all, take-at, drop-at, take-take, take-add, drop-drop}
 use lib.Dec.{eqb}
 use Rattle.json_bytes.proofs.Laws.{by-test}
-use Rattle.table_fields.proofs.Laws.{part-is}
+use Rattle.parts.proofs.Laws.{part-is}
 use Rattle.bundle_bytes.specs.Words.{wordAt, wordOf}
 use Rattle.bundle_bytes.specs.Pieces.{joined, startOf, changed}
-use Rattle.bundle_bytes.specs.Files.{File, Left, Given, isPresent, bytesOf}
+use Rattle.parts.specs.Files.{File, Left, Given, isPresent, bytesOf}
 use Rattle.bundle_bytes.proofs.Laws.{Bytes, word-length, word-in-part, word-again, joined-same, startOf-same, start-end, joined-part-behind, joined-part-within}
 use Rattle.bundle_layout.specs.Bundle.{headerSize, offsetAt, lengthAt, isOmitted, endOf, standsRight, laidOut, bundleFault, partAt, fileAt, piecesOf, entryOf, headerOf, bundleOf, bundleLength}
 use Rattle.bundle_layout.specs.Change.{filesAfter, tryFault, makeFault, outputOf, output}

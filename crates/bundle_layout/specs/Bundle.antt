@@ -4,10 +4,10 @@ use mathlib.Core.Bool.{Bool, true, false, cond, _&&_, _||_}
 use mathlib.Core.List.{List, [], _++_}
 use lib.ListN.{length}
 use lib.Dec.{ltb, eqb}
-use Rattle.table_fields.specs.Flat.{partOf}
+use Rattle.parts.specs.Part.{partOf}
 use Rattle.bundle_bytes.specs.Words.{wordAt, wordOf}
 use Rattle.bundle_bytes.specs.Pieces.{joined, startOf}
-use Rattle.bundle_bytes.specs.Files.{File, Left, Given, isPresent, bytesOf}
+use Rattle.parts.specs.Files.{File, Left, Given, isPresent, bytesOf}
 
 -- ---- The layout
 -- "a count .., then .. pairs of offset and length, 164 bytes in all"

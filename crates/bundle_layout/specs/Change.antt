@@ -5,7 +5,7 @@ use mathlib.Core.List.{List, _++_}
 use lib.ListN.{length, drop}
 use lib.Dec.{ltb, eqb}
 use Rattle.bundle_bytes.specs.Pieces.{changed}
-use Rattle.bundle_bytes.specs.Files.{File}
+use Rattle.parts.specs.Files.{File}
 use Rattle.bundle_layout.specs.Bundle.{lookupFault, fileAt, bundleOf, bundleLength}
 
 -- the files as they stand after a change of file k

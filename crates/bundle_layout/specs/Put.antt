@@ -4,7 +4,7 @@ use Prim.Native.Nat.{ℕ}
 use mathlib.Core.Bool.{Bool, false, _||_}
 use mathlib.Core.List.{List, [], _∷_}
 use lib.Dec.{eqb}
-use Rattle.bundle_bytes.specs.Files.{File, Left}
+use Rattle.parts.specs.Files.{File, Left}
 use Rattle.bundle_layout.specs.Bundle.{bundleOf}
 use Rattle.bundle_layout.specs.Change.{filesAfter}
 

@@ -8,12 +8,14 @@ use lib.ListN.{length, take, drop, List·getD-eq-default}
 use lib.Seq.{paste-zero}
 use lib.Dec.{leb}
 use borrow.Author.Tests.{lt-ltb, le-ltb, le-leb, lt-leb}
-use Rattle.table_fields.specs.Ascii.{codes}
-use Rattle.table_fields.specs.Flat.{countBefore, partOf}
-use Rattle.table_fields.proofs.Laws.{upFrom, each, count-past}
+use Rattle.table_rows.specs.Ascii.{codes}
+use Rattle.parts.specs.Part.{partOf}
+use Rattle.table_rows.specs.Rows.{countBefore}
+use Rattle.table_rows.proofs.Laws.{upFrom, each, count-past}
 use Rattle.bundle_bytes.specs.Pieces.{written}
 use Rattle.bundle_bytes.proofs.Laws.{written-none}
-use Rattle.file_names.specs.Names.{fileNames, tails, tailOf, allTails, tailStart, pathLength}
+use Rattle.file_names.specs.Names.{fileNames, tails, tailOf, pathLength}
+use Rattle.file_names.specs.Flat.{allTails, tailStart}
 
 -- ---- the names laid out flat read back, computed over all of them
 tailBack : ℕ → List ℕ

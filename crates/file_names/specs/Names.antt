@@ -2,11 +2,10 @@
 -- document 002 gives the tables.
 use Prim.Native.Nat.{ℕ, _+_}
 use mathlib.Core.Bool.{cond, _&&_}
-use mathlib.Core.List.{List, [], _∷_, map, flatten}
+use mathlib.Core.List.{List, [], _∷_, map}
 use lib.ListN.{length, getD}
 use lib.Dec.{leb, ltb}
-use Rattle.table_fields.specs.Ascii.{codes}
-use Rattle.table_fields.specs.Flat.{countBefore}
+use Rattle.table_rows.specs.Ascii.{codes}
 
 unfoldable pub fileNames : List (List ℕ)
 fileNames =
@@ -43,10 +42,3 @@ tailOf file = getD tails file []
 unfoldable pub pathLength : List ℕ → ℕ → ℕ → ℕ
 pathLength path folder file =
     cond (ltb file 20 && leb (folder + length (tailOf file)) (length path)) (folder + length (tailOf file)) 0
-
--- ---- laid out flat, as the code holds them
-unfoldable pub allTails : List ℕ
-allTails = flatten tails
-
-unfoldable pub tailStart : ℕ → ℕ
-tailStart file = countBefore tails file

@@ -1,9 +1,10 @@
 // The names of the 20 files of a set, and a file's path in a folder.
 ghost use mathlib.Core.Path.{_≡_};
 ghost use Rattle.bundle_bytes.specs.Pieces.{written};
-ghost use Rattle.file_names.specs.Names.{allTails, tailStart, tailOf, pathLength};
+ghost use Rattle.file_names.specs.Names.{tailOf, pathLength};
+ghost use Rattle.file_names.specs.Flat.{allTails, tailStart};
 use bundle_bytes::put_part;
-use table_fields::part;
+use parts::part;
 
 // The names one behind the other, each behind a slash, as it stands in a path.
 const TAILS: [u8; 484] =

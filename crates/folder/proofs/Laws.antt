@@ -7,7 +7,7 @@ use mathlib.Core.List.{List}
 use native.Mathlib.Omega.{arith}
 use lib.ListN.{length, take}
 use borrow.Author.Tests.{eq-eqb}
-use Rattle.bundle_bytes.specs.Files.{File}
+use Rattle.parts.specs.Files.{File}
 use Rattle.bundle_layout.specs.Bundle.{bundleFault, bundleLength}
 use Rattle.bundle_layout.specs.Change.{filesAfter, makeFault, output}
 use Rattle.bundle_layout.proofs.Laws.{make-none}

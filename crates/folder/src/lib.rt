@@ -11,10 +11,10 @@ ghost use Rattle.folder.specs.Answers.{Within, Bundled};
 use bundle::make_bundle;
 use bundle_bytes::put_part;
 use file_names::put_path;
+use parts::part;
 use program_io::Input;
 use program_io::complain;
 use program_io::read_all;
-use table_fields::part;
 
 // What stands under a name: n bytes, nothing, or what cannot be read.
 pub enum Found {

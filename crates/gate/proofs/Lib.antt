@@ -1,5 +1,2 @@
 pub mod Laws
-pub mod Marks
-pub mod Demand3
-pub mod Refusals
-pub mod Lent
+pub mod MarkKinds

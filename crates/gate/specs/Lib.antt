@@ -1,4 +1,1 @@
 pub mod Gate
-pub mod Again
-pub mod Sequence
-pub mod Lent

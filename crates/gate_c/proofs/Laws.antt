@@ -1,135 +1,142 @@
--- What the calls need: a list copied over another, what a call without a fault of its own may take for granted, and what a
--- call answers with such a fault and without.
+-- What the calls need: a call's own fault, what a call answers with one and without, and a workspace of its own.
 -- Assumes nothing.
-use Prim.Native.Nat.{ℕ, _+_, _≤_, _<_}
+use Prim.Native.Nat.{ℕ, _≤_, _<_}
 use mathlib.Core.Path.{_≡_, refl, sym, ap, _∙_}
 use mathlib.Core.Bool.{Bool, true, false, cond, _||_}
-use mathlib.Core.List.{List, [], _∷_, _++_}
-use native.Mathlib.Numerals.{add-one}
+use mathlib.Core.List.{List, _++_}
 use native.Mathlib.Omega.{arith}
 use borrow.Author.Tests.{eqb-true, eq-eqb, ne-eqb, lt-ltb, le-ltb}
-use lib.ListN.{length, getD, set, take, drop}
-use lib.Seq.{take-suc, take-suc-set, take-all}
-use lib.Dec.{eqb, ltb, leb}
+use lib.ListN.{length, set, drop, replicate, length-replicate}
+use lib.Dec.{eqb, ltb}
+use Rattle.mark_numbers.specs.Marks.{Marks, marksIn}
 use Rattle.bundle_bytes.specs.Words.{wordAt}
-use Rattle.bundle_bytes.specs.Files.{File}
 use Rattle.bundle_layout.specs.Bundle.{headerSize, laidOut, bundleFault, lookupFault}
-use Rattle.board.specs.Board.{boardFrom}
-use Rattle.board.specs.declared.Board.{Board}
-use Rattle.gate.specs.declared.Verdict.{Verdict}
-use Rattle.gate.specs.Lent.{workLeft}
-use Rattle.report.specs.Report.{reportOf}
-use Rattle.gate_c.specs.Calls.{callFault, makeCallFault, Called, called, textCalled}
-
--- ---- a list copied over one as long: the first i are the same
-module _ (from to : List ℕ) (i : ℕ) (as-long : length to ≡ length from) (same : take i to ≡ take i from) where
-  pub copied-more : i < length from → take (i + 1) (set to i (getD from i 0)) ≡ take (i + 1) from
-  copied-more l =
-      ap (λ k. take k (set to i (getD from i 0))) (add-one i)
-      ∙ take-suc-set to i (getD from i 0) (omega arith)
-      ∙ ap (λ xs. xs ++ (getD from i 0 ∷ [])) same
-      ∙ sym (take-suc from i 0 l)
-      ∙ ap (λ k. take k from) (sym (add-one i))
-
-  pub copied-whole : length from ≤ i → to ≡ from
-  copied-whole l = sym (take-all i to (omega arith)) ∙ same ∙ take-all i from l
-
-pub board-copied : {kinds places ks ps : List ℕ} → ks ≡ kinds → ps ≡ places → boardFrom ks ps ≡ boardFrom kinds places
-board-copied k p = rw (k, p) refl
+use Rattle.bundle_layout.specs.Change.{filesAfter}
+use Rattle.bundle.specs.declared.Made.{Made}
+use Rattle.gate_marks.specs.declared.Scope.the-variants.{Change}
+use Rattle.gate_marks.specs.Again.{hasLists, workspaceOf}
+use Rattle.gate_calls.specs.Calls.{Answer, answer}
+use Rattle.gate_calls.specs.Lent.{judgedIn, triedIn, madeIn, outputIn, judgeLeft, changeLeft}
+use Rattle.schedule.specs.Schedule.{schedule}
+use Rattle.schedule.proofs.Laws.{marks-are, workspace-is}
+use Rattle.gate_lists.specs.declared.Which.the-variants.{Schedule}
+use Rattle.gate_lists.specs.Which.{gateCalled, madeOf}
+use Rattle.gate_lists.proofs.Answers.{work-untouched}
+use Rattle.report.specs.Report.{textIn}
+use Rattle.gate_c.specs.Calls.{callFault, makeCallFault, called, fileHanded, tryCalled, makeCalled, outputCalled, sizeCalled, textCalled}
 
 -- ---- a call's own fault
 module _ (kinds places : List ℕ) (present : ℕ) where
-  pub fault-kinds : (length kinds ≡ 81 → ⊥) → 100 ≡ callFault kinds places present
-  unfolding callFault
-  fault-kinds n = rw (ne-eqb _ 81 n)
+  pub fault-kinds : (length kinds ≡ 81 → ⊥) → 100 ≡ callFault schedule (marksIn kinds places) present
+  unfolding callFault hasLists
+  fault-kinds n = rw (marks-are, ne-eqb (length kinds) 81 n)
 
-  pub fault-places : length kinds ≡ 81 → (length places ≡ 81 → ⊥) → 100 ≡ callFault kinds places present
-  unfolding callFault
-  fault-places k n = rw (eq-eqb _ 81 k, ne-eqb _ 81 n)
+  module _ (k : length kinds ≡ 81) where
+    pub fault-places : (length places ≡ 81 → ⊥) → 100 ≡ callFault schedule (marksIn kinds places) present
+    unfolding callFault hasLists
+    fault-places n = rw (marks-are, eq-eqb (length kinds) 81 k, ne-eqb (length places) 81 n)
 
-  pub fault-present : length kinds ≡ 81 → length places ≡ 81 → 1 < present → 101 ≡ callFault kinds places present
-  unfolding callFault
-  fault-present k p l = rw (eq-eqb _ 81 k, eq-eqb _ 81 p, lt-ltb 1 present l)
+    module _ (p : length places ≡ 81) where
+      pub fault-present : 1 < present → 101 ≡ callFault schedule (marksIn kinds places) present
+      unfolding callFault hasLists
+      fault-present l = rw (marks-are, eq-eqb (length kinds) 81 k, eq-eqb (length places) 81 p, lt-ltb 1 present l)
 
-  pub fault-none : length kinds ≡ 81 → length places ≡ 81 → present ≤ 1 → 0 ≡ callFault kinds places present
-  unfolding callFault
-  fault-none k p l = rw (eq-eqb _ 81 k, eq-eqb _ 81 p, le-ltb 1 present l)
+      pub fault-none : present ≤ 1 → 0 ≡ callFault schedule (marksIn kinds places) present
+      unfolding callFault hasLists
+      fault-none l = rw (marks-are, eq-eqb (length kinds) 81 k, eq-eqb (length places) 81 p, le-ltb 1 present l)
 
-  if-81 : (n x : ℕ) → cond (eqb n 81) x 100 ≡ 0 → (n ≡ 81) × (x ≡ 0)
-  if-81 n x q = by (eqb n 81) refl q
-    where
-      by : (t : Bool) → eqb n 81 ≡ t → cond t x 100 ≡ 0 → (n ≡ 81) × (x ≡ 0)
-      by true e z = (eqb-true n 81 e, z)
-      by false e z = absurd (omega arith)
+-- ---- a judgement by the gate of document 01, whose refusal alone is answered
+module _ (s : List ℕ) (handed : Marks) (work : List ℕ) where
+  pub judge-called : {made : Made} {marks : Marks} {last : List ℕ}
+      → (made ≡ madeOf (judgedIn (gateCalled Schedule) s (length work) handed)) × ((marks ≡ judgedIn (gateCalled Schedule) s (length work) handed .marks) × (last ≡ judgeLeft (gateCalled Schedule) s (made .refusal) work))
+      → (made .refusal ≡ judgedIn schedule s (length work) handed .refusal) × ((marks ≡ judgedIn schedule s (length work) handed .marks) × (last ≡ judgeLeft schedule s (made .refusal) work))
+  unfolding gateCalled madeOf
+  judge-called (m, (b, w)) = (ap (λ x. x .refusal) m, (b, w))
 
-  -- without one both lists are of 81
-  pub lists-fit : (f : ℕ) → f ≡ callFault kinds places present → f ≡ 0 → (length kinds ≡ 81) × (length places ≡ 81)
-  unfolding callFault
-  lists-fit f f-is none =
-      let both = if-81 (length kinds) (cond (eqb (length places) 81) (cond (ltb 1 present) 101 0) 100) (sym f-is ∙ none) in
-      (both .0, if-81 (length places) (cond (ltb 1 present) 101 0) (both .1) .0)
-
--- ---- what a call answers with a fault of its own
-module _ (fault : ℕ) (f : ℕ) (f-is : f ≡ fault) (some : f ≡ 0 → ⊥) where
+-- ---- what a call with a change answers with a fault of its own
+module _ (fault : ℕ) {f : ℕ} (is : f ≡ fault) (some : f ≡ 0 → ⊥) where
   is-some : eqb fault 0 ≡ false
-  is-some = ne-eqb fault 0 (λ q. some (f-is ∙ q))
+  is-some = ne-eqb fault 0 (λ q. some (is ∙ q))
 
-  pub called-ill : (verdict : Verdict) (kinds places : List ℕ) → (f ≡ called fault verdict kinds places .number) × ((kinds ≡ called fault verdict kinds places .kinds) × (places ≡ called fault verdict kinds places .places))
+  called-ill : (handed : Marks) (whole : Answer) → called fault handed whole ≡ answer f 0 handed
   unfolding called
-  called-ill verdict kinds places = (rw is-some f-is, (rw is-some refl, rw is-some refl))
-
-  pub kept : (x y : List ℕ) → y ≡ cond (eqb fault 0) x y
-  kept x y = rw is-some refl
+  called-ill handed whole = rw (is-some, is)
 
 -- ---- and without
-module _ (fault : ℕ) (f : ℕ) (f-is : f ≡ fault) (none : f ≡ 0) where
+module _ (fault : ℕ) {f : ℕ} (is : f ≡ fault) (none : f ≡ 0) where
   is-none : eqb fault 0 ≡ true
-  is-none = eq-eqb fault 0 (sym f-is ∙ none)
+  is-none = eq-eqb fault 0 (sym is ∙ none)
 
-  pub called-well : (verdict : Verdict) (kinds places : List ℕ) (v : Verdict) → v ≡ verdict → (r : ℕ) (ks ps : List ℕ) → (r ≡ v .refusal) × ((ks ≡ v .board .kinds) × (ps ≡ v .board .places)) → (r ≡ called fault verdict kinds places .number) × ((ks ≡ called fault verdict kinds places .kinds) × (ps ≡ called fault verdict kinds places .places))
+  called-well : (handed : Marks) (whole : Answer) → called fault handed whole ≡ whole
   unfolding called
-  called-well verdict kinds places v v-is r ks ps e =
-      (rw is-none (e .0 ∙ ap (λ x. x .refusal) v-is), (rw is-none (e .1 .0 ∙ ap (λ x. x .board .kinds) v-is), rw is-none (e .1 .1 ∙ ap (λ x. x .board .places) v-is)))
+  called-well handed whole = rw is-none
 
-  pub put-in : (x y z : List ℕ) → z ≡ x → z ≡ cond (eqb fault 0) x y
-  put-in x y z e = rw is-none e
+module _ (s : List ℕ) (file present : ℕ) (bytes : List ℕ) (handed : Marks) (work : List ℕ) where
+  untouched : (f : ℕ) → (f ≡ 0 → ⊥) → work ≡ changeLeft schedule s file (fileHanded present bytes) f work
+  unfolding changeLeft
+  untouched f some = work-untouched schedule (Change file) (filesAfter s file (fileHanded present bytes)) work f some
 
--- ---- a call that makes a change has a list of 1 for the length too
-pub make-fit : (kinds places : List ℕ) (present : ℕ) (size : List ℕ) (f : ℕ) → f ≡ makeCallFault kinds places present size → f ≡ 0 → (length size ≡ 1) × ((length kinds ≡ 81) × (length places ≡ 81))
-unfolding makeCallFault
-make-fit kinds places present size f f-is none = by (eqb (length size) 1) refl (sym f-is ∙ none)
-  where
-    by : (t : Bool) → eqb (length size) 1 ≡ t → cond t (callFault kinds places present) 100 ≡ 0 → (length size ≡ 1) × ((length kinds ≡ 81) × (length places ≡ 81))
-    by true e z = (eqb-true (length size) 1 e, lists-fit kinds places present (callFault kinds places present) refl z)
-    by false e z = absurd (omega arith)
+  module _ {f : ℕ} (is : f ≡ callFault schedule handed present) where
+    pub try-ill : (f ≡ 0 → ⊥)
+        → (f ≡ tryCalled schedule s file present bytes (length work) handed .refusal) × ((handed ≡ tryCalled schedule s file present bytes (length work) handed .marks) × (work ≡ changeLeft schedule s file (fileHanded present bytes) f work))
+    unfolding tryCalled
+    try-ill some =
+        let e = called-ill _ is some handed (triedIn schedule s file (fileHanded present bytes) (length work) handed) in
+        (sym (ap (λ x. x .refusal) e), (sym (ap (λ x. x .marks) e), untouched f some))
 
--- ---- a verdict on a board that was copied
-pub verdict-on : (of : Board → Verdict) (v : Verdict) (b copy : Board) → v ≡ of copy → copy ≡ b → v ≡ of b
-verdict-on of v b copy e q = e ∙ ap of q
+    pub try-well : f ≡ 0 → {made : Made} {marks : Marks} {last : List ℕ}
+        → (made ≡ madeOf (triedIn (gateCalled Schedule) s file (fileHanded present bytes) (length work) handed)) × ((marks ≡ triedIn (gateCalled Schedule) s file (fileHanded present bytes) (length work) handed .marks) × (last ≡ changeLeft (gateCalled Schedule) s file (fileHanded present bytes) (made .refusal) work))
+        → (made .refusal ≡ tryCalled schedule s file present bytes (length work) handed .refusal) × ((marks ≡ tryCalled schedule s file present bytes (length work) handed .marks) × (last ≡ changeLeft schedule s file (fileHanded present bytes) (made .refusal) work))
+    unfolding tryCalled gateCalled madeOf
+    try-well none (m, (b, w)) =
+        let e = called-well _ is none handed (triedIn schedule s file (fileHanded present bytes) (length work) handed) in
+        (ap (λ x. x .refusal) m ∙ sym (ap (λ x. x .refusal) e), (b ∙ sym (ap (λ x. x .marks) e), w))
 
--- ---- what is left in the workspace goes by the number that is answered
-pub work-answered : (all : Bool) (k : ℕ) (files : ℕ → File) (lent last : List ℕ) (refusal r : ℕ) → last ≡ workLeft refusal all k files lent → r ≡ refusal → last ≡ workLeft r all k files lent
-work-answered all k files lent last refusal r e q = rw q e
+  module _ (out size : List ℕ) {f : ℕ} (is : f ≡ makeCallFault schedule handed present size) where
+    -- a call without one has a list of 1 for the length
+    pub size-fits : f ≡ 0 → length size ≡ 1
+    unfolding makeCallFault
+    size-fits none = go (eqb (length size) 1) refl (sym is ∙ none)
+      where
+        go : (t : Bool) → eqb (length size) 1 ≡ t → cond t (callFault schedule handed present) 100 ≡ 0 → length size ≡ 1
+        go true e z = eqb-true (length size) 1 e
+        go false e z = absurd (omega arith)
+
+    pub make-ill : (f ≡ 0 → ⊥)
+        → (f ≡ makeCalled schedule s file present bytes (length out) size (length work) handed .refusal) × ((handed ≡ makeCalled schedule s file present bytes (length out) size (length work) handed .marks) × ((out ≡ outputCalled schedule s file present bytes out size (length work) handed) × ((size ≡ sizeCalled schedule s file present bytes (length out) size (length work) handed) × (work ≡ changeLeft schedule s file (fileHanded present bytes) f work))))
+    unfolding makeCalled outputCalled sizeCalled
+    make-ill some =
+        let e = called-ill _ is some handed (madeIn schedule s file (fileHanded present bytes) (length out) (length work) handed) in
+        (sym (ap (λ x. x .refusal) e), (sym (ap (λ x. x .marks) e), (rw (is-some _ is some), (rw (is-some _ is some), untouched f some))))
+
+    pub make-well : f ≡ 0 → {made : Made} {marks : Marks} {written last : List ℕ}
+        → (made ≡ madeOf (madeIn (gateCalled Schedule) s file (fileHanded present bytes) (length out) (length work) handed)) × ((marks ≡ madeIn (gateCalled Schedule) s file (fileHanded present bytes) (length out) (length work) handed .marks) × ((written ≡ outputIn (gateCalled Schedule) s file (fileHanded present bytes) (length work) handed out) × (last ≡ changeLeft (gateCalled Schedule) s file (fileHanded present bytes) (made .refusal) work)))
+        → (made .refusal ≡ makeCalled schedule s file present bytes (length out) size (length work) handed .refusal) × ((marks ≡ makeCalled schedule s file present bytes (length out) size (length work) handed .marks) × ((written ≡ outputCalled schedule s file present bytes out size (length work) handed) × ((set size 0 (made .length) ≡ sizeCalled schedule s file present bytes (length out) size (length work) handed) × (last ≡ changeLeft schedule s file (fileHanded present bytes) (made .refusal) work))))
+    unfolding makeCalled outputCalled sizeCalled gateCalled madeOf
+    make-well none (m, (b, (o, w))) =
+        let e = called-well _ is none handed (madeIn schedule s file (fileHanded present bytes) (length out) (length work) handed) in
+        (ap (λ x. x .refusal) m ∙ sym (ap (λ x. x .refusal) e), (b ∙ sym (ap (λ x. x .marks) e), (rw (is-none _ is none) o, (rw (is-none _ is none) (ap (λ x. set size 0 (x .length)) m), w))))
+
+-- ---- a workspace of a call's own is as long as it has to be: what it answers in it, from what it answers in a lent one
+abbrev own : List ℕ
+own = replicate 794702 0
+
+pub own-long : length own ≡ 794702
+own-long = length-replicate {A = ℕ} 794702 0
+
+pub in-own : {A : Type 0} (of : ℕ → A) {x : A} → x ≡ of (length own) → x ≡ of (workspaceOf schedule)
+in-own of e = e ∙ ap of (own-long ∙ sym workspace-is)
 
 -- ---- the text
-module _ (refusal : ℕ) (kinds places out : List ℕ) (f : ℕ) (f-is : f ≡ callFault kinds places 0) where
-  pub text-ill : (f ≡ 0 → ⊥) → (0 ≡ length (textCalled refusal kinds places (length out))) × (out ≡ textCalled refusal kinds places (length out) ++ drop (length (textCalled refusal kinds places (length out))) out)
+module _ (refusal : ℕ) (handed : Marks) (out : List ℕ) {f : ℕ} (is : f ≡ callFault schedule handed 0) where
+  pub text-ill : (f ≡ 0 → ⊥) → (0 ≡ length (textCalled schedule refusal handed (length out))) × (out ≡ textCalled schedule refusal handed (length out) ++ drop (length (textCalled schedule refusal handed (length out))) out)
   unfolding textCalled
-  text-ill some =
-      let e : eqb (callFault kinds places 0) 0 ≡ false = ne-eqb _ 0 (λ q. some (f-is ∙ q)) in
-      (rw e refl, rw e refl)
+  text-ill some = rw (is-some _ is some) (refl, refl)
 
-  pub text-well : f ≡ 0 → (b : Board) → b ≡ boardFrom kinds places → (r : ℕ) (last : List ℕ) → r ≡ cond (leb 4096 (length out)) (length (reportOf refusal b)) 0 → last ≡ cond (leb 4096 (length out)) (reportOf refusal b ++ drop (length (reportOf refusal b)) out) out → (r ≡ length (textCalled refusal kinds places (length out))) × (last ≡ textCalled refusal kinds places (length out) ++ drop (length (textCalled refusal kinds places (length out))) out)
+  pub text-well : f ≡ 0 → {r : ℕ} {last : List ℕ} → r ≡ length (textIn refusal handed (length out)) → last ≡ textIn refusal handed (length out) ++ drop (length (textIn refusal handed (length out))) out
+      → (r ≡ length (textCalled schedule refusal handed (length out))) × (last ≡ textCalled schedule refusal handed (length out) ++ drop (length (textCalled schedule refusal handed (length out))) out)
   unfolding textCalled
-  text-well none b b-is r last r-is last-is =
-      let e : eqb (callFault kinds places 0) 0 ≡ true = eq-eqb _ 0 (sym f-is ∙ none) in
-      let i : r ≡ cond (leb 4096 (length out)) (length (reportOf refusal (boardFrom kinds places))) 0 = r-is ∙ ap (λ x. cond (leb 4096 (length out)) (length (reportOf refusal x)) 0) b-is in
-      let j : last ≡ cond (leb 4096 (length out)) (reportOf refusal (boardFrom kinds places) ++ drop (length (reportOf refusal (boardFrom kinds places))) out) out = last-is ∙ ap (λ x. cond (leb 4096 (length out)) (reportOf refusal x ++ drop (length (reportOf refusal x)) out) out) b-is in
-      rw e (by (leb 4096 (length out)) (reportOf refusal (boardFrom kinds places)) i j)
-    where
-      by : (t : Bool) (text : List ℕ) → r ≡ cond t (length text) 0 → last ≡ cond t (text ++ drop (length text) out) out → (r ≡ length (cond t text [])) × (last ≡ cond t text [] ++ drop (length (cond t text [])) out)
-      by true text i j = (i, j)
-      by false text i j = (i, j)
+  text-well none r-is last-is = rw (is-none _ is none) (r-is, last-is)
 
 -- ---- a file asked for by number
 up-to : (t : Bool) (a b n : ℕ) → a ≤ n → b ≤ n → cond t a b ≤ n

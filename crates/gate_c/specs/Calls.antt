@@ -1,62 +1,58 @@
 -- What the calls answer that other programs make: the three of document 01, in memory of their own or in a lent workspace,
--- a file asked for by number, and the judging program's text. A board is handed over as two lists of 81.
+-- a file asked for by number, and the judging program's text. Marks are handed over as lists.
 use Prim.Native.Nat.{ℕ, _+_}
 use mathlib.Core.Bool.{cond}
 use mathlib.Core.List.{List, []}
-use lib.ListN.{length}
-use lib.Dec.{eqb, ltb, leb}
-use Rattle.bundle_bytes.specs.Files.{File, newFile}
+use lib.ListN.{length, set}
+use lib.Dec.{eqb, ltb}
+use Rattle.parts.specs.Files.{File, newFile}
+use Rattle.mark_numbers.specs.Marks.{Marks}
 use Rattle.bundle_layout.specs.Bundle.{offsetAt, lookupFault}
 use Rattle.bundle.specs.declared.FileState.{FileState}
 use Rattle.bundle.specs.declared.FileState.the-variants.{Present, Omitted, Refused}
-use Rattle.board.specs.Board.{boardFrom}
-use Rattle.board.specs.declared.Board.{Board}
-use Rattle.gate.specs.declared.Verdict.{Verdict}
-use Rattle.report.specs.Report.{reportOf}
+use Rattle.gate_marks.specs.Gate.{Gate}
+use Rattle.gate_marks.specs.Again.{hasLists}
+use Rattle.gate_calls.specs.Calls.{Answer, answer}
+use Rattle.gate_calls.specs.Lent.{triedIn, madeIn, outputIn}
+use Rattle.report.specs.Report.{textIn}
 
--- ---- Calls that hand over a board
--- 100 where a list is not of 81, 101 where the number that says whether there are new bytes is neither 1 nor 0, else 0
-unfoldable pub callFault : List ℕ → List ℕ → ℕ → ℕ
-callFault kinds places present =
-    cond (eqb (length kinds) 81) (cond (eqb (length places) 81) (cond (ltb 1 present) 101 0) 100) 100
+-- ---- Calls with a change
+-- 100 where a list is not of as many as there are marks, 101 where the number that says whether there are new bytes is
+-- neither 1 nor 0, else 0
+unfoldable pub callFault : Gate → Marks → ℕ → ℕ
+callFault g handed present = cond (hasLists g handed) (cond (ltb 1 present) 101 0) 100
 
--- with a list of 1 for the new bundle's length
-unfoldable pub makeCallFault : List ℕ → List ℕ → ℕ → List ℕ → ℕ
-makeCallFault kinds places present size = cond (eqb (length size) 1) (callFault kinds places present) 100
-
--- what a call answers, and what it leaves in the two lists
-pub record Called : Type 0 where
-  pub number : ℕ
-  pub kinds : List ℕ
-  pub places : List ℕ
-
--- a call without a fault of its own hands over its verdict; one with a fault leaves the lists as they are
-unfoldable pub called : ℕ → Verdict → List ℕ → List ℕ → Called
-called fault verdict kinds places =
-    cond (eqb fault 0) (record { number = verdict .refusal; kinds = verdict .board .kinds; places = verdict .board .places }) (record { number = fault; kinds = kinds; places = places })
-
--- a call that judges in full ends with this verdict
-abbrev pub judgeCalled : Verdict → List ℕ → List ℕ → Called
-judgeCalled verdict kinds places = called (callFault kinds places 0) verdict kinds places
+-- a call with a fault of its own leaves everything as it is
+unfoldable pub called : ℕ → Marks → Answer → Answer
+called fault handed whole = cond (eqb fault 0) whole (answer fault 0 handed)
 
 -- the new file of a change: these bytes where `present` is 1, none where it is 0
-abbrev pub handed : ℕ → List ℕ → File
-handed present bytes = newFile (eqb present 1) bytes
+abbrev pub fileHanded : ℕ → List ℕ → File
+fileHanded present bytes = newFile (eqb present 1) bytes
 
--- a call with a change ends with the verdict on the new file and the board that it hands over
-abbrev pub tryCalled : (File → Board → Verdict) → List ℕ → List ℕ → ℕ → List ℕ → Called
-tryCalled verdictOn kinds places present bytes =
-    called (callFault kinds places present) (verdictOn (handed present bytes) (boardFrom kinds places)) kinds places
+unfoldable pub tryCalled : Gate → List ℕ → ℕ → ℕ → List ℕ → ℕ → Marks → Answer
+tryCalled g s file present bytes lent handed =
+    called (callFault g handed present) handed (triedIn g s file (fileHanded present bytes) lent handed)
 
-abbrev pub makeCalled : (File → Board → Verdict) → List ℕ → List ℕ → ℕ → List ℕ → List ℕ → Called
-makeCalled verdictOn kinds places present bytes size =
-    called (makeCallFault kinds places present size) (verdictOn (handed present bytes) (boardFrom kinds places)) kinds places
+-- with a list of 1 for the new bundle's length
+unfoldable pub makeCallFault : Gate → Marks → ℕ → List ℕ → ℕ
+makeCallFault g handed present size = cond (eqb (length size) 1) (callFault g handed present) 100
 
--- ---- The text
--- none where a list is not of 81 or the output below 4,096 bytes
-unfoldable pub textCalled : ℕ → List ℕ → List ℕ → ℕ → List ℕ
-textCalled refusal kinds places room =
-    cond (eqb (callFault kinds places 0) 0) (cond (leb 4096 room) (reportOf refusal (boardFrom kinds places)) []) []
+unfoldable pub makeCalled : Gate → List ℕ → ℕ → ℕ → List ℕ → ℕ → List ℕ → ℕ → Marks → Answer
+makeCalled g s file present bytes room size lent handed =
+    called (makeCallFault g handed present size) handed (madeIn g s file (fileHanded present bytes) room lent handed)
+
+unfoldable pub outputCalled : Gate → List ℕ → ℕ → ℕ → List ℕ → List ℕ → List ℕ → ℕ → Marks → List ℕ
+outputCalled g s file present bytes out size lent handed =
+    cond (eqb (makeCallFault g handed present size) 0) (outputIn g s file (fileHanded present bytes) lent handed out) out
+
+unfoldable pub sizeCalled : Gate → List ℕ → ℕ → ℕ → List ℕ → ℕ → List ℕ → ℕ → Marks → List ℕ
+sizeCalled g s file present bytes room size lent handed =
+    cond (eqb (makeCallFault g handed present size) 0) (set size 0 (madeIn g s file (fileHanded present bytes) room lent handed .length)) size
+
+-- ---- The text, of a board of as many marks as the gate has; none where a list or the output has a wrong length
+unfoldable pub textCalled : Gate → ℕ → Marks → ℕ → List ℕ
+textCalled g refusal handed room = cond (eqb (callFault g handed 0) 0) (textIn refusal handed room) []
 
 -- ---- A file asked for by number
 -- 0 for one that is there, 1 for one that is omitted, 200 and its number for a refusal

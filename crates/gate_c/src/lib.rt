@@ -1,89 +1,33 @@
 // The gate for programs in other languages: numbers and lent lists in, a number out. A call whose
 // lists have wrong lengths answers 100 and writes nothing. The calls that end in `_in` judge in the
 // lent workspace `work`, for callers whose stack is small: one that is too short is refused as 14,
-// and what any of them leaves in it may be lent again.
+// and what any of them leaves in it may be lent again. The others are the same over memory of their own.
 ghost use mathlib.Core.Path.{_≡_};
-ghost use mathlib.Core.Bool.{true, false, cond};
+ghost use mathlib.Core.Bool.{cond};
 ghost use mathlib.Core.List.{_++_};
 ghost use lib.ListN.{length, drop, set};
 ghost use lib.Dec.{eqb};
-ghost use Rattle.bundle_layout.specs.Bundle.{fileAt, partAsked};
-ghost use Rattle.bundle_layout.specs.Change.{filesAfter, output};
+ghost use Rattle.mark_numbers.specs.Marks.{marksIn};
+ghost use Rattle.bundle_layout.specs.Bundle.{partAsked};
 ghost use Rattle.bundle.specs.Answers.{stateAsked};
-ghost use Rattle.board.specs.Board.{boardFrom};
-ghost use Rattle.gate.specs.Gate.{judgement, tried, changeMade};
-ghost use Rattle.gate.specs.Lent.{judgedIn, triedIn, madeIn, outputIn, workLeft};
-ghost use Rattle.gate_c.specs.Calls.{callFault, makeCallFault, judgeCalled, handed, tryCalled, makeCalled, textCalled, stateNumber, startAsked};
-use board::Board;
+ghost use Rattle.gate_marks.specs.Again.{workspaceOf};
+ghost use Rattle.gate_calls.specs.Lent.{judgedIn, judgeLeft, changeLeft};
+ghost use Rattle.schedule.specs.Schedule.{schedule};
+ghost use Rattle.report.specs.Report.{textIn};
+ghost use Rattle.gate_c.specs.Calls.{callFault, makeCallFault, fileHanded, tryCalled, makeCalled, outputCalled, sizeCalled, textCalled, stateNumber, startAsked};
 use bundle::file_part;
 use bundle::is_omitted;
 use bundle::lookup_fault;
 use bundle_bytes::word_at;
-use gate::Verdict;
-use gate::judge;
-use gate::judge_in;
-use gate::make_change;
-use gate::make_in;
-use gate::try_change;
-use gate::try_in;
+use gate_lists::Which;
+use gate_lists::judge_lists;
+use gate_lists::make_lists;
+use gate_lists::try_lists;
 use report::report;
-
-// Copies a list of 81 over another.
-fn copy_kinds(from: &[u32], to: &mut [u32])
-    requires { ⌜ (length (now from) ≡ 81) × (length (now to) ≡ 81) ⌝ }
-    ensures { λ _. ⌜ now (to .exit) ≡ now (from .entry) ⌝ }
-{
-    let mut i = 0;
-    while i < from.len() {
-        to[i] = from[i];
-        i += 1;
-    }
-}
-
-fn copy_places(from: &[usize], to: &mut [usize])
-    requires { ⌜ (length (now from) ≡ 81) × (length (now to) ≡ 81) ⌝ }
-    ensures { λ _. ⌜ now (to .exit) ≡ now (from .entry) ⌝ }
-{
-    let mut i = 0;
-    while i < from.len() {
-        to[i] = from[i];
-        i += 1;
-    }
-}
-
-// The board that two lists hand over.
-fn board_of(kinds: &[u32], places: &[usize]) -> Board
-    requires { ⌜ (length (now kinds) ≡ 81) × (length (now places) ≡ 81) ⌝ }
-    ensures { λ r. ⌜ r ≡ boardFrom (now (kinds .entry)) (now (places .entry)) ⌝ }
-{
-    let mut board_kinds = [0u32; 81];
-    let mut board_places = [0usize; 81];
-    copy_kinds(kinds, &mut board_kinds);
-    copy_places(places, &mut board_places);
-    Board {
-        kinds: board_kinds,
-        places: board_places,
-    }
-}
-
-// Hands a verdict over: its board goes to the two lists, and its refusal or 0 is answered.
-fn hand_over(verdict: Verdict, kinds: &mut [u32], places: &mut [usize]) -> u32
-    requires { ⌜ (length (now kinds) ≡ 81) × (length (now places) ≡ 81) ⌝ }
-    ensures { λ r. ⌜ r ≡ verdict .refusal ⌝ }
-    ensures { λ _. ⌜ now (kinds .exit) ≡ verdict .board .kinds ⌝ }
-    ensures { λ _. ⌜ now (places .exit) ≡ verdict .board .places ⌝ }
-{
-    let board = verdict.board;
-    let board_kinds = board.kinds;
-    let board_places = board.places;
-    copy_kinds(&board_kinds, kinds);
-    copy_places(&board_places, places);
-    verdict.refusal
-}
 
 // What is wrong with a call's own lists and numbers, 100 or 101, or 0.
 fn call_fault(kinds: &[u32], places: &[usize], present: u32) -> u32
-    ensures { λ r. ⌜ r ≡ callFault (now (kinds .entry)) (now (places .entry)) present ⌝ }
+    ensures { λ r. ⌜ r ≡ callFault schedule (marksIn (now (kinds .entry)) (now (places .entry))) present ⌝ }
 {
     if kinds.len() != 81 {
         return 100;
@@ -98,7 +42,7 @@ fn call_fault(kinds: &[u32], places: &[usize], present: u32) -> u32
 }
 
 fn make_call_fault(kinds: &[u32], places: &[usize], present: u32, size: &[usize]) -> u32
-    ensures { λ r. ⌜ r ≡ makeCallFault (now (kinds .entry)) (now (places .entry)) present (now (size .entry)) ⌝ }
+    ensures { λ r. ⌜ r ≡ makeCallFault schedule (marksIn (now (kinds .entry)) (now (places .entry))) present (now (size .entry)) ⌝ }
 {
     if size.len() != 1 {
         return 100;
@@ -106,22 +50,8 @@ fn make_call_fault(kinds: &[u32], places: &[usize], present: u32, size: &[usize]
     call_fault(kinds, places, present)
 }
 
-// Judges a bundle in full: the refusal or 0; the board goes to the two lists.
-#[no_mangle]
-pub extern "C" fn knotsaddle_judge(bundle: &[u8], kinds: &mut [u32], places: &mut [usize]) -> u32
-    ensures { λ r. ⌜ r ≡ judgeCalled (judgement (now (bundle .entry))) (now (kinds .entry)) (now (places .entry)) .number ⌝ }
-    ensures { λ _. ⌜ now (kinds .exit) ≡ judgeCalled (judgement (now (bundle .entry))) (now (kinds .entry)) (now (places .entry)) .kinds ⌝ }
-    ensures { λ _. ⌜ now (places .exit) ≡ judgeCalled (judgement (now (bundle .entry))) (now (kinds .entry)) (now (places .entry)) .places ⌝ }
-{
-    let fault = call_fault(kinds, places, 0);
-    if fault != 0 {
-        return fault;
-    }
-    let verdict = judge(bundle);
-    hand_over(verdict, kinds, places)
-}
-
-// Judges a bundle in full in a lent workspace, whatever that holds.
+// Judges a bundle in full in a lent workspace, whatever that holds: the refusal or 0; the marks go to
+// the two lists.
 #[no_mangle]
 pub extern "C" fn knotsaddle_judge_in(
     bundle: &[u8],
@@ -129,44 +59,25 @@ pub extern "C" fn knotsaddle_judge_in(
     places: &mut [usize],
     work: &mut [u32],
 ) -> u32
-    ensures { λ r. ⌜ r ≡ judgeCalled (judgedIn (now (bundle .entry)) (length (now (work .entry)))) (now (kinds .entry)) (now (places .entry)) .number ⌝ }
-    ensures { λ _. ⌜ now (kinds .exit) ≡ judgeCalled (judgedIn (now (bundle .entry)) (length (now (work .entry)))) (now (kinds .entry)) (now (places .entry)) .kinds ⌝ }
-    ensures { λ _. ⌜ now (places .exit) ≡ judgeCalled (judgedIn (now (bundle .entry)) (length (now (work .entry)))) (now (kinds .entry)) (now (places .entry)) .places ⌝ }
-    ensures { λ r. ⌜ now (work .exit) ≡ workLeft r true 20 (fileAt (now (bundle .entry))) (now (work .entry)) ⌝ }
+    ensures { λ r. ⌜ r ≡ judgedIn schedule (now (bundle .entry)) (length (now (work .entry))) (marksIn (now (kinds .entry)) (now (places .entry))) .refusal ⌝ }
+    ensures { λ _. ⌜ marksIn (now (kinds .exit)) (now (places .exit)) ≡ judgedIn schedule (now (bundle .entry)) (length (now (work .entry))) (marksIn (now (kinds .entry)) (now (places .entry))) .marks ⌝ }
+    ensures { λ r. ⌜ now (work .exit) ≡ judgeLeft schedule (now (bundle .entry)) r (now (work .entry)) ⌝ }
 {
-    let fault = call_fault(kinds, places, 0);
-    if fault != 0 {
-        return fault;
-    }
-    let verdict = judge_in(bundle, work);
-    hand_over(verdict, kinds, places)
+    judge_lists(Which::Schedule, bundle, work, kinds, places).refusal
 }
 
-// Tries a change of a file, to new bytes where `present` is 1 and to none where it is 0; the handed
-// board in the two lists gives way to the one that comes back.
+// Judges a bundle in full.
 #[no_mangle]
-pub extern "C" fn knotsaddle_try<'a>(
-    bundle: &'a [u8],
-    kinds: &mut [u32],
-    places: &mut [usize],
-    file: usize,
-    present: u32,
-    new_bytes: &'a [u8],
-) -> u32
-    ensures { λ r. ⌜ r ≡ tryCalled (tried (now (bundle .entry)) file) (now (kinds .entry)) (now (places .entry)) present (now («new_bytes» .entry)) .number ⌝ }
-    ensures { λ _. ⌜ now (kinds .exit) ≡ tryCalled (tried (now (bundle .entry)) file) (now (kinds .entry)) (now (places .entry)) present (now («new_bytes» .entry)) .kinds ⌝ }
-    ensures { λ _. ⌜ now (places .exit) ≡ tryCalled (tried (now (bundle .entry)) file) (now (kinds .entry)) (now (places .entry)) present (now («new_bytes» .entry)) .places ⌝ }
+pub extern "C" fn knotsaddle_judge(bundle: &[u8], kinds: &mut [u32], places: &mut [usize]) -> u32
+    ensures { λ r. ⌜ r ≡ judgedIn schedule (now (bundle .entry)) (workspaceOf schedule) (marksIn (now (kinds .entry)) (now (places .entry))) .refusal ⌝ }
+    ensures { λ _. ⌜ marksIn (now (kinds .exit)) (now (places .exit)) ≡ judgedIn schedule (now (bundle .entry)) (workspaceOf schedule) (marksIn (now (kinds .entry)) (now (places .entry))) .marks ⌝ }
 {
-    let fault = call_fault(kinds, places, present);
-    if fault != 0 {
-        return fault;
-    }
-    let board = board_of(kinds, places);
-    let verdict = try_change(bundle, board, file, present == 1, new_bytes);
-    hand_over(verdict, kinds, places)
+    let mut work = [0u32; 794702];
+    knotsaddle_judge_in(bundle, kinds, places, &mut work)
 }
 
-// Tries a change, handed over as to `knotsaddle_try`, in a lent workspace.
+// Tries a change of a file in a lent workspace, to new bytes where `present` is 1 and to none where it
+// is 0; the marks that were handed in give way to those that come back.
 #[no_mangle]
 pub extern "C" fn knotsaddle_try_in<'a>(
     bundle: &'a [u8],
@@ -177,50 +88,45 @@ pub extern "C" fn knotsaddle_try_in<'a>(
     new_bytes: &'a [u8],
     work: &mut [u32],
 ) -> u32
-    ensures { λ r. ⌜ r ≡ tryCalled (λ new board. triedIn (now (bundle .entry)) file new board (length (now (work .entry)))) (now (kinds .entry)) (now (places .entry)) present (now («new_bytes» .entry)) .number ⌝ }
-    ensures { λ _. ⌜ now (kinds .exit) ≡ tryCalled (λ new board. triedIn (now (bundle .entry)) file new board (length (now (work .entry)))) (now (kinds .entry)) (now (places .entry)) present (now («new_bytes» .entry)) .kinds ⌝ }
-    ensures { λ _. ⌜ now (places .exit) ≡ tryCalled (λ new board. triedIn (now (bundle .entry)) file new board (length (now (work .entry)))) (now (kinds .entry)) (now (places .entry)) present (now («new_bytes» .entry)) .places ⌝ }
-    ensures { λ r. ⌜ now (work .exit) ≡ workLeft r false file (filesAfter (now (bundle .entry)) file (handed present (now («new_bytes» .entry)))) (now (work .entry)) ⌝ }
+    ensures { λ r. ⌜ r ≡ tryCalled schedule (now (bundle .entry)) file present (now («new_bytes» .entry)) (length (now (work .entry))) (marksIn (now (kinds .entry)) (now (places .entry))) .refusal ⌝ }
+    ensures { λ _. ⌜ marksIn (now (kinds .exit)) (now (places .exit)) ≡ tryCalled schedule (now (bundle .entry)) file present (now («new_bytes» .entry)) (length (now (work .entry))) (marksIn (now (kinds .entry)) (now (places .entry))) .marks ⌝ }
+    ensures { λ r. ⌜ now (work .exit) ≡ changeLeft schedule (now (bundle .entry)) file (fileHanded present (now («new_bytes» .entry))) r (now (work .entry)) ⌝ }
 {
     let fault = call_fault(kinds, places, present);
     if fault != 0 {
         return fault;
     }
-    let board = board_of(kinds, places);
-    let verdict = try_in(bundle, board, file, present == 1, new_bytes, work);
-    hand_over(verdict, kinds, places)
+    try_lists(
+        Which::Schedule,
+        bundle,
+        file,
+        present == 1,
+        new_bytes,
+        work,
+        kinds,
+        places,
+    ).refusal
 }
 
-// Makes a change, handed over as to `knotsaddle_try`: the new bundle goes to the front of `out`, its
-// length (0 if refused) to `size`.
+// Tries a change.
 #[no_mangle]
-pub extern "C" fn knotsaddle_make<'a>(
+pub extern "C" fn knotsaddle_try<'a>(
     bundle: &'a [u8],
     kinds: &mut [u32],
     places: &mut [usize],
     file: usize,
     present: u32,
     new_bytes: &'a [u8],
-    out: &mut [u8],
-    size: &mut [usize],
 ) -> u32
-    ensures { λ r. ⌜ r ≡ makeCalled (λ new board. changeMade (now (bundle .entry)) file new board (length (now (out .entry)))) (now (kinds .entry)) (now (places .entry)) present (now («new_bytes» .entry)) (now (size .entry)) .number ⌝ }
-    ensures { λ _. ⌜ now (kinds .exit) ≡ makeCalled (λ new board. changeMade (now (bundle .entry)) file new board (length (now (out .entry)))) (now (kinds .entry)) (now (places .entry)) present (now («new_bytes» .entry)) (now (size .entry)) .kinds ⌝ }
-    ensures { λ _. ⌜ now (places .exit) ≡ makeCalled (λ new board. changeMade (now (bundle .entry)) file new board (length (now (out .entry)))) (now (kinds .entry)) (now (places .entry)) present (now («new_bytes» .entry)) (now (size .entry)) .places ⌝ }
-    ensures { λ _. ⌜ now (out .exit) ≡ cond (eqb (makeCallFault (now (kinds .entry)) (now (places .entry)) present (now (size .entry))) 0) (output 20 (now (bundle .entry)) file (handed present (now («new_bytes» .entry))) (now (out .entry))) (now (out .entry)) ⌝ }
-    ensures { λ _. ⌜ now (size .exit) ≡ cond (eqb (makeCallFault (now (kinds .entry)) (now (places .entry)) present (now (size .entry))) 0) (set (now (size .entry)) 0 (changeMade (now (bundle .entry)) file (handed present (now («new_bytes» .entry))) (boardFrom (now (kinds .entry)) (now (places .entry))) (length (now (out .entry))) .length)) (now (size .entry)) ⌝ }
+    ensures { λ r. ⌜ r ≡ tryCalled schedule (now (bundle .entry)) file present (now («new_bytes» .entry)) (workspaceOf schedule) (marksIn (now (kinds .entry)) (now (places .entry))) .refusal ⌝ }
+    ensures { λ _. ⌜ marksIn (now (kinds .exit)) (now (places .exit)) ≡ tryCalled schedule (now (bundle .entry)) file present (now («new_bytes» .entry)) (workspaceOf schedule) (marksIn (now (kinds .entry)) (now (places .entry))) .marks ⌝ }
 {
-    let fault = make_call_fault(kinds, places, present, size);
-    if fault != 0 {
-        return fault;
-    }
-    let board = board_of(kinds, places);
-    let verdict = make_change(bundle, board, file, present == 1, new_bytes, out);
-    size[0] = verdict.length;
-    hand_over(verdict, kinds, places)
+    let mut work = [0u32; 794702];
+    knotsaddle_try_in(bundle, kinds, places, file, present, new_bytes, &mut work)
 }
 
-// Makes a change, handed over as to `knotsaddle_make`, in a lent workspace.
+// Makes a change, handed over as to `knotsaddle_try_in`: the new bundle goes to the front of `out`, its
+// length (0 if refused) to `size`.
 #[no_mangle]
 pub extern "C" fn knotsaddle_make_in<'a>(
     bundle: &'a [u8],
@@ -233,25 +139,64 @@ pub extern "C" fn knotsaddle_make_in<'a>(
     size: &mut [usize],
     work: &mut [u32],
 ) -> u32
-    ensures { λ r. ⌜ r ≡ makeCalled (λ new board. madeIn (now (bundle .entry)) file new board (length (now (out .entry))) (length (now (work .entry)))) (now (kinds .entry)) (now (places .entry)) present (now («new_bytes» .entry)) (now (size .entry)) .number ⌝ }
-    ensures { λ _. ⌜ now (kinds .exit) ≡ makeCalled (λ new board. madeIn (now (bundle .entry)) file new board (length (now (out .entry))) (length (now (work .entry)))) (now (kinds .entry)) (now (places .entry)) present (now («new_bytes» .entry)) (now (size .entry)) .kinds ⌝ }
-    ensures { λ _. ⌜ now (places .exit) ≡ makeCalled (λ new board. madeIn (now (bundle .entry)) file new board (length (now (out .entry))) (length (now (work .entry)))) (now (kinds .entry)) (now (places .entry)) present (now («new_bytes» .entry)) (now (size .entry)) .places ⌝ }
-    ensures { λ _. ⌜ now (out .exit) ≡ cond (eqb (makeCallFault (now (kinds .entry)) (now (places .entry)) present (now (size .entry))) 0) (outputIn (now (bundle .entry)) file (handed present (now («new_bytes» .entry))) (now (out .entry)) (length (now (work .entry)))) (now (out .entry)) ⌝ }
-    ensures { λ _. ⌜ now (size .exit) ≡ cond (eqb (makeCallFault (now (kinds .entry)) (now (places .entry)) present (now (size .entry))) 0) (set (now (size .entry)) 0 (madeIn (now (bundle .entry)) file (handed present (now («new_bytes» .entry))) (boardFrom (now (kinds .entry)) (now (places .entry))) (length (now (out .entry))) (length (now (work .entry))) .length)) (now (size .entry)) ⌝ }
-    ensures { λ r. ⌜ now (work .exit) ≡ workLeft r false file (filesAfter (now (bundle .entry)) file (handed present (now («new_bytes» .entry)))) (now (work .entry)) ⌝ }
+    ensures { λ r. ⌜ r ≡ makeCalled schedule (now (bundle .entry)) file present (now («new_bytes» .entry)) (length (now (out .entry))) (now (size .entry)) (length (now (work .entry))) (marksIn (now (kinds .entry)) (now (places .entry))) .refusal ⌝ }
+    ensures { λ _. ⌜ marksIn (now (kinds .exit)) (now (places .exit)) ≡ makeCalled schedule (now (bundle .entry)) file present (now («new_bytes» .entry)) (length (now (out .entry))) (now (size .entry)) (length (now (work .entry))) (marksIn (now (kinds .entry)) (now (places .entry))) .marks ⌝ }
+    ensures { λ _. ⌜ now (out .exit) ≡ outputCalled schedule (now (bundle .entry)) file present (now («new_bytes» .entry)) (now (out .entry)) (now (size .entry)) (length (now (work .entry))) (marksIn (now (kinds .entry)) (now (places .entry))) ⌝ }
+    ensures { λ _. ⌜ now (size .exit) ≡ sizeCalled schedule (now (bundle .entry)) file present (now («new_bytes» .entry)) (length (now (out .entry))) (now (size .entry)) (length (now (work .entry))) (marksIn (now (kinds .entry)) (now (places .entry))) ⌝ }
+    ensures { λ r. ⌜ now (work .exit) ≡ changeLeft schedule (now (bundle .entry)) file (fileHanded present (now («new_bytes» .entry))) r (now (work .entry)) ⌝ }
 {
     let fault = make_call_fault(kinds, places, present, size);
     if fault != 0 {
         return fault;
     }
-    let board = board_of(kinds, places);
-    let verdict = make_in(bundle, board, file, present == 1, new_bytes, out, work);
-    size[0] = verdict.length;
-    hand_over(verdict, kinds, places)
+    let made = make_lists(
+        Which::Schedule,
+        bundle,
+        file,
+        present == 1,
+        new_bytes,
+        out,
+        work,
+        kinds,
+        places,
+    );
+    size[0] = made.length;
+    made.refusal
 }
 
-// Writes the text of a refusal, or with none that of a board, to the front of `out`, and answers its
-// length.
+// Makes a change.
+#[no_mangle]
+pub extern "C" fn knotsaddle_make<'a>(
+    bundle: &'a [u8],
+    kinds: &mut [u32],
+    places: &mut [usize],
+    file: usize,
+    present: u32,
+    new_bytes: &'a [u8],
+    out: &mut [u8],
+    size: &mut [usize],
+) -> u32
+    ensures { λ r. ⌜ r ≡ makeCalled schedule (now (bundle .entry)) file present (now («new_bytes» .entry)) (length (now (out .entry))) (now (size .entry)) (workspaceOf schedule) (marksIn (now (kinds .entry)) (now (places .entry))) .refusal ⌝ }
+    ensures { λ _. ⌜ marksIn (now (kinds .exit)) (now (places .exit)) ≡ makeCalled schedule (now (bundle .entry)) file present (now («new_bytes» .entry)) (length (now (out .entry))) (now (size .entry)) (workspaceOf schedule) (marksIn (now (kinds .entry)) (now (places .entry))) .marks ⌝ }
+    ensures { λ _. ⌜ now (out .exit) ≡ outputCalled schedule (now (bundle .entry)) file present (now («new_bytes» .entry)) (now (out .entry)) (now (size .entry)) (workspaceOf schedule) (marksIn (now (kinds .entry)) (now (places .entry))) ⌝ }
+    ensures { λ _. ⌜ now (size .exit) ≡ sizeCalled schedule (now (bundle .entry)) file present (now («new_bytes» .entry)) (length (now (out .entry))) (now (size .entry)) (workspaceOf schedule) (marksIn (now (kinds .entry)) (now (places .entry))) ⌝ }
+{
+    let mut work = [0u32; 794702];
+    knotsaddle_make_in(
+        bundle,
+        kinds,
+        places,
+        file,
+        present,
+        new_bytes,
+        out,
+        size,
+        &mut work,
+    )
+}
+
+// Writes the text of a refusal, or with none that of a board of 81 marks, to the front of `out`, and
+// answers its length.
 #[no_mangle]
 pub extern "C" fn knotsaddle_report(
     refusal: u32,
@@ -259,13 +204,13 @@ pub extern "C" fn knotsaddle_report(
     places: &[usize],
     out: &mut [u8],
 ) -> usize
-    ensures { λ r. ⌜ r ≡ length (textCalled refusal (now (kinds .entry)) (now (places .entry)) (length (now (out .entry)))) ⌝ }
-    ensures { λ _. ⌜ now (out .exit) ≡ textCalled refusal (now (kinds .entry)) (now (places .entry)) (length (now (out .entry))) ++ drop (length (textCalled refusal (now (kinds .entry)) (now (places .entry)) (length (now (out .entry))))) (now (out .entry)) ⌝ }
+    ensures { λ r. ⌜ r ≡ length (textCalled schedule refusal (marksIn (now (kinds .entry)) (now (places .entry))) (length (now (out .entry)))) ⌝ }
+    ensures { λ _. ⌜ now (out .exit) ≡ textCalled schedule refusal (marksIn (now (kinds .entry)) (now (places .entry))) (length (now (out .entry))) ++ drop (length (textCalled schedule refusal (marksIn (now (kinds .entry)) (now (places .entry))) (length (now (out .entry))))) (now (out .entry)) ⌝ }
 {
     if call_fault(kinds, places, 0) != 0 {
         return 0;
     }
-    report(refusal, board_of(kinds, places), out)
+    report(refusal, kinds, places, out)
 }
 
 // What a file asked for by number is, as a number.

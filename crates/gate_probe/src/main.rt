@@ -28,8 +28,8 @@ use gate::try_change;
 use gate::try_in;
 use libc::STDIN_FILENO;
 use libc::STDOUT_FILENO;
+use parts::part;
 use program_io::fill;
-use table_fields::part;
 
 // Fills the front of a buffer, where it is long enough.
 fn fill_front(buf: &mut [u8], n: usize) -> bool {

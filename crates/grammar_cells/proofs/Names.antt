@@ -9,7 +9,7 @@ use lib.ListN.{length, getD}
 use Rattle.json_same.specs.Same.{casedAs, sameAs}
 use Rattle.json_same.specs.declared.Case.the-variants.{Kept}
 use Rattle.json_same.proofs.Laws.{same-cased}
-use Rattle.table_fields.specs.Fields.{Field}
+use Rattle.table_rows.specs.Rows.{Field}
 use Rattle.table_name.specs.Name.{indexOf}
 
 kept-all : (cs : List ℕ) → map (casedAs Kept) cs ≡ cs

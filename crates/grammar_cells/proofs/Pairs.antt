@@ -19,7 +19,7 @@ use Rattle.json_bytes.proofs.Bounds.{Within, spaces-within}
 use Rattle.json_chars.specs.Chars.{charsAt}
 use Rattle.json_text.specs.Text.{textAt}
 use Rattle.json_text.proofs.Bounds.{text-within}
-use Rattle.table_fields.specs.Fields.{Field}
+use Rattle.table_rows.specs.Rows.{Field}
 use Rattle.table_value.specs.Value.{valueAt}
 use Rattle.table_value.specs.declared.ValueRead.{ValueRead}
 use Rattle.table_value.specs.declared.ValueRead.the-variants.{Held, Null, Bad}

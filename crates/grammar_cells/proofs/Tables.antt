@@ -13,8 +13,8 @@ use Rattle.json_bytes.specs.Reads.{byteAt, spacesEnd}
 use Rattle.json_bytes.specs.declared.Reading.{Reading}
 use Rattle.json_bytes.specs.declared.Reading.the-variants.{Whole, Fault}
 use Rattle.json_bytes.proofs.Laws.{by-test, inside}
-use Rattle.table_fields.specs.Fields.{Field}
-use Rattle.table_value.specs.Value.{valueAt, notObjectOf, notObjectAt}
+use Rattle.table_rows.specs.Rows.{Field}
+use Rattle.table_value.specs.Value.{opens, tokenAt, notObjectOf, notObjectAt}
 use Rattle.table_value.specs.declared.ValueRead.{ValueRead}
 use Rattle.table_value.specs.declared.ValueRead.the-variants.{Held, Null, Bad}
 use Rattle.table_name.specs.Name.{firstIn, nextAfter}
@@ -52,16 +52,15 @@ module _ (fields : List Field) (s : Bytes) where
       (λ t _. (rw (drop-of-length-le s (ltb-false (spacesEnd s at) (length s) t)) at (spaces-here s at l), refl))
 
   -- ---- An element
-  not-whole : (v : ValueRead) (at end : ℕ) → notObjectOf at v ≡ Whole end → ⊥
+  not-whole : (t : Reading) (at end : ℕ) → notObjectOf at t ≡ Whole end → ⊥
   unfolding notObjectOf
-  not-whole (Held stop) at end = λ q. never q
-  not-whole (Null stop) at end = λ q. never q
-  not-whole (Bad kind place) at end =
-      by-test (λ (r : Reading). r ≡ Whole end → ⊥) (eqb kind 15) _ _ (λ _ q. never q) (λ _ q. never q)
+  not-whole (Whole stop) at end = λ q. never q
+  not-whole (Fault kind place) at end = λ q. never q
 
   no-object : (at end : ℕ) → notObjectAt s at ≡ Whole end → ⊥
   unfolding notObjectAt
-  no-object at end = not-whole (valueAt s at 7) at end
+  no-object at end =
+      by-test (λ (r : Reading). r ≡ Whole end → ⊥) (opens (byteAt s at)) _ _ (λ _ q. never q) (λ _. not-whole (tokenAt s at) at end)
 
   -- read whole, it is an object, its cells are told, and those before it are kept
   pub record ElementIs (at r : ℕ) (cells : List ℕ) (end : ℕ) (then : List ℕ) : Type 0 where

@@ -6,7 +6,7 @@ use mathlib.Core.List.{List, [], _∷_}
 use lib.ListN.{length, getD}
 use lib.Dec.{eqb}
 use Rattle.json_bytes.specs.Reads.{within}
-use Rattle.table_fields.specs.Fields.{Field}
+use Rattle.table_rows.specs.Rows.{Field}
 use Rattle.table_name.specs.Name.{indexOf}
 use Rattle.table_record.specs.Record.{startCell, endCell, typeOf}
 use Rattle.table_file.specs.Table.{TableRead}

@@ -9,7 +9,7 @@ use mathlib.Core.List.{List}
 use native.Mathlib.Omega.{arith}
 use lib.ListN.{length, take}
 use lib.Seq.{take-length}
-use Rattle.table_fields.specs.Fields.{Field}
+use Rattle.table_rows.specs.Rows.{Field}
 use Rattle.table_file.specs.declared.FileRead.{FileRead}
 use Rattle.table_file.specs.Table.{tableOf}
 use Rattle.grammar.specs.Grammar.{Bytes, Text, Begins}

@@ -16,7 +16,7 @@ use Rattle.json_bytes.proofs.Laws.{by-test, inside}
 use Rattle.json_bytes.proofs.Bounds.{Within}
 use Rattle.json_chars.specs.Chars.{charsAt}
 use Rattle.json_text.specs.Text.{textAt}
-use Rattle.table_fields.specs.Fields.{Field}
+use Rattle.table_rows.specs.Rows.{Field}
 use Rattle.table_value.specs.Value.{valueAt}
 use Rattle.table_value.specs.declared.ValueRead.{ValueRead}
 use Rattle.table_value.specs.declared.ValueRead.the-variants.{Held, Null, Bad}

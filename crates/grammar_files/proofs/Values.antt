@@ -25,7 +25,7 @@ use Rattle.json_number.specs.declared.Integer.the-variants.{Is, Fraction, TooLa
 use Rattle.json_date.specs.Date.{dateOf}
 use Rattle.json_date.specs.declared.Date.{Date}
 use Rattle.json_date.specs.declared.Date.the-variants.{Day, NoDate}
-use Rattle.table_value.specs.Value.{textType, textHeld, dateHeld, stringIn, stringValue, decimalHeld, integerHeld, numberIn, numberValue, literalIn, literalValue, startsNumber, opens, valueAt, notObjectOf, notObjectAt}
+use Rattle.table_value.specs.Value.{textType, textHeld, dateHeld, stringIn, stringValue, decimalHeld, integerHeld, numberIn, numberValue, literalIn, literalValue, startsNumber, opens, valueAt, tokenAt, notObjectOf, notObjectAt}
 use Rattle.table_value.specs.declared.ValueRead.{ValueRead}
 use Rattle.table_value.specs.declared.ValueRead.the-variants.{Held, Null, Bad}
 use Rattle.grammar.specs.Grammar
@@ -177,15 +177,26 @@ module _ (K₀ : Stack) (start : ℕ) (s : Bytes) (K : Stack) (at : ℕ) (a : At
       (λ o. literal-value ty (literalAt s at) (answered K₀ start s K (literalAt s at) (literal-at K at (as-literal q n o))))))
 
   -- ---- 12 where an object belongs
-  not-object : (v : ValueRead) → Judged v → Answered K₀ start s K (notObjectOf at v)
+  not-object : (r : Reading) → Answered K₀ start s K r → Answered K₀ start s K (notObjectOf at r)
   unfolding notObjectOf
-  not-object (Held end) b = here 12 (omega arith)
-  not-object (Null end) b = here 12 (omega arith)
-  not-object (Bad kind place) b =
-      by-test (Answered K₀ start s K) (eqb kind 15) _ _
-      (λ e. retold b (omega (arith, eqb-true kind 15 e)) 12 (omega arith))
-      (λ _. b)
+  not-object (Whole end) b = here 12 (omega arith)
+  not-object (Fault kind place) b = b
+
+  of-text : (r : Reading) → TextRead K₀ start s K r → Answered K₀ start s K r
+  of-text (Whole end) b = b
+  of-text (Fault kind place) b = b .0
+
+  token-at : opens (byteAt s at) ≡ false → Answered K₀ start s K (tokenAt s at)
+  unfolding tokenAt
+  token-at o =
+      by-test (Answered K₀ start s K) (eqb (byteAt s at) 34) _ _
+      (λ e. let q : byteAt s at ≡ 34 = eqb-true _ 34 e in
+      of-text (textAt s at) (text-behind K₀ start s K at q (as-string q)))
+      (λ q. by-test (Answered K₀ start s K) (startsNumber (byteAt s at)) _ _
+      (λ e. answered K₀ start s K (numberAt s at .reading) (number-at K at (as-number e)))
+      (λ n. answered K₀ start s K (literalAt s at) (literal-at K at (as-literal q n o))))
 
   pub not-object-at : Answered K₀ start s K (notObjectAt s at)
   unfolding notObjectAt
-  not-object-at = not-object (valueAt s at 7) (value-at 7)
+  not-object-at =
+      by-test (Answered K₀ start s K) (opens (byteAt s at)) _ _ (λ _. here 12 (omega arith)) (λ o. not-object (tokenAt s at) (token-at o))

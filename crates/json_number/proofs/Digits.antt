@@ -13,7 +13,8 @@ use lib.Seq.{drop-cons}
 use lib.Dec.{eqb}
 use Rattle.json_bytes.specs.Reads.{byteAt, leading}
 use Rattle.json_bytes.proofs.Laws.{within-from, within-to}
-use Rattle.json_number.specs.Number.{isDigit, formed, endZeros, trimmed, cap, Carried}
+use Rattle.json_number.specs.Number.{isDigit, formed, endZeros, trimmed}
+use Rattle.json_number.specs.Capped.{cap, Carried}
 use Rattle.json_number.proofs.Trim.{zeros-of, trimmed-of, zero-behind, no-zero, trims, zeros-zero, trimmed-zero, trimmed-nonzero}
 
 pub digit-range : (b : ℕ) → isDigit b ≡ true → (48 ≤ b) × (b ≤ 57)

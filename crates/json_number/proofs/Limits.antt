@@ -9,7 +9,8 @@ use native.Mathlib.Omega.{arith}
 use borrow.Author.Tests.{eq-eqb, ne-eqb, le-leb, lt-leb, leb-true, eqb-false}
 use lib.Dec.{leb, eqb}
 use Rattle.json_bytes.proofs.Laws.{by-test, both-left, both-right}
-use Rattle.json_number.specs.Number.{largest, limited, withinLimits, valueOf, InForm, cap}
+use Rattle.json_number.specs.Number.{largest, limited, withinLimits, valueOf, InForm}
+use Rattle.json_number.specs.Capped.{cap}
 use Rattle.json_number.specs.declared.Value.{Value}
 use Rattle.json_number.specs.declared.Value.the-variants.{Fits, Beyond}
 

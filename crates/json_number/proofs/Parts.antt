@@ -8,7 +8,8 @@ use native.Mathlib.Omega.{arith}
 use borrow.Author.Tests.{eq-eqb, ne-eqb}
 use lib.ListN.{drop}
 use Rattle.json_bytes.specs.Reads.{byteAt}
-use Rattle.json_number.specs.Number.{digitsAt, formed, fractionAt, coefficientAt, powerAt, signedAt, exponentAt, cap, cappedCoefficient, cappedExponent, Carried, valueOf, stoppedAt, withExponent, withCoefficient, numberAt}
+use Rattle.json_number.specs.Number.{digitsAt, formed, fractionAt, coefficientAt, powerAt, signedAt, exponentAt, valueOf, stoppedAt, withExponent, withCoefficient, numberAt}
+use Rattle.json_number.specs.Capped.{cap, cappedCoefficient, cappedExponent, Carried}
 use Rattle.json_number.specs.declared.Coefficient.{Coefficient}
 use Rattle.json_number.specs.declared.Coefficient.the-variants.{Digits, NoDigit}
 use Rattle.json_number.specs.declared.Exponent.{Exponent}

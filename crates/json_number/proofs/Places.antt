@@ -25,8 +25,8 @@ use Rattle.json_number.specs.Number.{
   withExponent,
   withCoefficient,
   numberAt,
-  cappedCoefficient,
 }
+use Rattle.json_number.specs.Capped.{cappedCoefficient}
 use Rattle.json_number.specs.declared.Coefficient.{Coefficient}
 use Rattle.json_number.specs.declared.Coefficient.the-variants.{Digits, NoDigit}
 use Rattle.json_number.specs.declared.Exponent.{Exponent}

@@ -1,7 +1,7 @@
 -- A JSON number where it stands: its end or its fault, and its value as document 01, "Numbers", counts it, in the one form
 -- that order 1 of document 02 asks for.
 -- Source of the grammar: ECMA-404, section 8. Values here are unbounded: no number of digits is too large to have one.
-use Prim.Native.Nat.{ℕ, zero, suc, _+_, _*_, _-_, _/_, _%_, _^_, min}
+use Prim.Native.Nat.{ℕ, zero, suc, _+_, _*_, _-_, _/_, _%_, _^_}
 use mathlib.Core.Path.{_≡_}
 use mathlib.Core.Bool.{Bool, true, false, cond, not, _&&_, _||_}
 use mathlib.Core.List.{List, [], _∷_}
@@ -157,21 +157,3 @@ unfoldable pub sameValue : Value → Value → Bool
 sameValue (Fits m c p) (Fits n d q) = sameParts m c p n d q
 sameValue (Fits m c p) Beyond = false
 sameValue Beyond v = false
-
--- ---- What the code keeps of a number formed by digits: the number itself below ten to the nineteenth, and that number
--- for all others. No length of digits wraps, and what is beyond every limit stays beyond it.
-abbrev pub cap : ℕ
-cap = 10000000000000000000
-
-abbrev pub cappedCoefficient : Coefficient → Coefficient
-cappedCoefficient (Digits end c zeros fraction) = Digits end (min c cap) zeros fraction
-cappedCoefficient (NoDigit place) = NoDigit place
-
-abbrev pub cappedExponent : Exponent → Exponent
-cappedExponent (Power end below e) = Power end below (min e cap)
-cappedExponent (NoPower place) = NoPower place
-
--- what the code carries of the number c that the digits so far form: all of it and it without its zeros at the end, both
--- capped, and how many those zeros are
-abbrev pub Carried : ℕ → ℕ → ℕ → ℕ → Type 0
-Carried c value kept zeros = (value ≡ min c cap) × (kept ≡ min (trimmed c) cap) × (zeros ≡ endZeros c)

@@ -19,7 +19,8 @@ use Rattle.json_same.specs.declared.Pair.{Pair}
 use Rattle.json_same.specs.declared.Pair.the-variants.{Same, Apart, Other}
 use Rattle.json_same.specs.declared.Run.{Run}
 use Rattle.json_same.specs.declared.Run.the-variants.{Differs, Stops}
-use Rattle.json_same.specs.Same.{casedAs, isPlain, pairOf, runFrom}
+use Rattle.json_same.specs.Same.{casedAs, isPlain}
+use Rattle.json_same.specs.Walk.{pairOf, runFrom}
 
 -- ---- a pair
 same-by : (t u : Bool) → cond t (cond u Same Apart) Other ≡ Same → (t ≡ true) × (u ≡ true)

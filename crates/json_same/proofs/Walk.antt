@@ -26,7 +26,8 @@ use Rattle.json_same.specs.declared.Case.{Case}
 use Rattle.json_same.specs.declared.Pair.the-variants.{Same, Apart}
 use Rattle.json_same.specs.declared.Run.{Run}
 use Rattle.json_same.specs.declared.Run.the-variants.{Differs, Stops}
-use Rattle.json_same.specs.Same.{casedAs, sameList, sameAs, beginning, isEnd, isPlain, runFrom}
+use Rattle.json_same.specs.Same.{casedAs, sameList, sameAs, isPlain}
+use Rattle.json_same.specs.Walk.{beginning, isEnd, runFrom}
 use Rattle.json_same.proofs.Pairs.{Plain, same-told, apart-told, At, run-on, run-parts}
 
 -- ---- where the characters begin

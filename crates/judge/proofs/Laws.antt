@@ -10,20 +10,23 @@ use lib.Dec.{leb}
 use borrow.Author.Tests.{le-leb, lt-ltb, le-ltb}
 use Rattle.board.specs.declared.Board.{Board}
 use Rattle.report.specs.Report.{reportOf}
-use Rattle.gate.specs.Gate.{judgement}
+use Rattle.board.specs.Board.{boardOf, marksOn}
+use Rattle.gate_calls.specs.Calls.{judgement}
+use Rattle.schedule.specs.Schedule.{schedule}
+use Rattle.gate.specs.Gate.{verdictOf}
 use Rattle.gate.specs.declared.Verdict.{Verdict}
 use Rattle.judge.specs.Printed.{printed}
 
 -- a report's length and its text in an output that is long enough
-module _ (refusal : ℕ) (board : Board) (out : List ℕ) (room : 4096 ≤ length out) {r : ℕ} {exit : List ℕ} (e : r ≡ cond (leb 4096 (length out)) (length (reportOf refusal board)) 0) (q : exit ≡ cond (leb 4096 (length out)) (reportOf refusal board ++ drop (length (reportOf refusal board)) out) out) where
-  pub report-front : take r exit ≡ reportOf refusal board
-  report-front = rw (e, q, le-leb 4096 (length out) room) (take-append-seam (reportOf refusal board) (drop (length (reportOf refusal board)) out))
+module _ (refusal : ℕ) (board : Board) (out : List ℕ) (room : 4096 ≤ length out) {r : ℕ} {exit : List ℕ} (e : r ≡ cond (leb 4096 (length out)) (length (reportOf refusal (marksOn board))) 0) (q : exit ≡ cond (leb 4096 (length out)) (reportOf refusal (marksOn board) ++ drop (length (reportOf refusal (marksOn board))) out) out) where
+  pub report-front : take r exit ≡ reportOf refusal (marksOn board)
+  report-front = rw (e, q, le-leb 4096 (length out) room) (take-append-seam (reportOf refusal (marksOn board)) (drop (length (reportOf refusal (marksOn board))) out))
 
 -- the report of a judgement, and that of a bundle that is too long
-pub judged : (s : List ℕ) → length s ≤ 65536 → {v : Verdict} → v ≡ judgement s → reportOf (v .refusal) (v .board) ≡ printed s
-unfolding printed
+pub judged : (s : List ℕ) → length s ≤ 65536 → {v : Verdict} → v ≡ verdictOf (judgement schedule s) → reportOf (v .refusal) (marksOn (v .board)) ≡ printed s
+unfolding printed verdictOf
 judged s l q = rw (le-ltb 65536 (length s) l, q)
 
-pub too-long : (s : List ℕ) → 65536 < length s → (board : Board) → reportOf 1 board ≡ printed s
+pub too-long : (s : List ℕ) → 65536 < length s → (board : Board) → reportOf 1 (marksOn board) ≡ printed s
 unfolding printed reportOf
 too-long s l board = rw (lt-ltb 65536 (length s) l)

@@ -5,9 +5,10 @@ use mathlib.Core.List.{List}
 use lib.ListN.{length}
 use lib.Dec.{ltb}
 use Rattle.report.specs.Report.{refusalText, reportOf}
-use Rattle.gate.specs.Gate.{judgement}
+use Rattle.gate_calls.specs.Calls.{judgement}
+use Rattle.schedule.specs.Schedule.{schedule}
 
 -- "over 65,536 bytes is `bundle 1`"
 unfoldable pub printed : List ℕ → List ℕ
 printed s =
-    cond (ltb 65536 (length s)) (refusalText 1) (reportOf (judgement s .refusal) (judgement s .board))
+    cond (ltb 65536 (length s)) (refusalText 1) (reportOf (judgement schedule s .refusal) (judgement schedule s .marks))

@@ -4,13 +4,13 @@ ghost use Prim.Native.Nat.{_≤_};
 ghost use lib.ListN.{length, take};
 ghost use Rattle.judge.specs.Printed.{printed};
 use board::fresh;
+use board::report_board;
 use gate::judge;
 use libc::STDIN_FILENO;
+use parts::part;
 use program_io::Input;
 use program_io::print;
 use program_io::read_all;
-use report::report;
-use table_fields::part;
 
 // Puts the text of a bundle's judgement at the front of an output, and answers its length.
 fn put_judgement(bundle: &[u8], out: &mut [u8]) -> usize
@@ -18,11 +18,11 @@ fn put_judgement(bundle: &[u8], out: &mut [u8]) -> usize
     ensures { λ r. ⌜ take r (now (out .exit)) ≡ printed (now (bundle .entry)) ⌝ }
 {
     if 65536 < bundle.len() {
-        return report(1, fresh(), out);
+        return report_board(1, fresh(), out);
     }
     let verdict = judge(bundle);
     let board = verdict.board;
-    report(verdict.refusal, board, out)
+    report_board(verdict.refusal, board, out)
 }
 
 // Judges standard input, with memory for the bundle and a byte more.

@@ -1,17 +1,17 @@
 // Judges the set of files in a folder, and prints its marks as the program `judge` does.
+use board::report_board;
 use folder::argument;
 use folder::gather;
 use gate::judge;
+use parts::part;
 use program_io::complain;
 use program_io::print;
-use report::report;
-use table_fields::part;
 
 fn print_judgement(bundle: &[u8]) {
     let mut text = [0u8; 4096];
     let verdict = judge(bundle);
     let board = verdict.board;
-    let n = report(verdict.refusal, board, &mut text);
+    let n = report_board(verdict.refusal, board, &mut text);
     print(part(&text, 0, n));
 }
 

@@ -5,19 +5,22 @@ use Prim.Native.String.{String, _++_}
 use mathlib.Core.Bool.{Bool, true, false, cond, not}
 use mathlib.Core.List.{List, [], _∷_}
 use lib.ListN.{length, replicate}
-use lib.Dec.{eqb}
 use Rattle.json_number.specs.declared.Integer.{Integer}
 use Rattle.json_number.specs.declared.Integer.the-variants.{Is, Fraction, TooLarge}
-use Rattle.table_fields.specs.Ascii.{codes}
+use Rattle.parts.specs.Files.{Given}
+use Rattle.table_rows.specs.Ascii.{codes}
 use Rattle.table_fields.specs.Fields.{fieldsOf}
+use Rattle.table_fields.specs.Flat.{valuePlaces, valueTexts}
 use Rattle.table_file.specs.Table.{TableRead}
 use Rattle.table_file.specs.File.{fileOf}
 use Rattle.rule_cells.specs.Cells.{Table, table, integerIn}
-use Rattle.rule_key.specs.Key.{keyRule}
-use Rattle.rule_key.specs.declared.Key.{Key}
-use Rattle.rule_hours.specs.Hours.{noneBelow}
-use Rattle.rule_outline.specs.Outline.{levelOf, levelRule, parentsUpTo}
-use Rattle.rule_rows.specs.Rules.{no, ruleRows, rowCell, readsFile}
+use Rattle.rule_outline.specs.Outline.{levelOf, parentsUpTo}
+use Rattle.rule_shape.specs.declared.Rule.{Rule}
+use Rattle.rule_shape.specs.Rule.{firstOf}
+use Rattle.rules.specs.Judge.{ruleBreak, isJudged, markOf}
+use Rattle.schedule_rules.specs.Rules.{no}
+use Rattle.gate_marks.specs.Gate.{marksOf, ruleOf, readsFile}
+use Rattle.schedule.specs.Schedule.{schedule}
 
 -- ---- A case
 pub record Case : Type 0 where
@@ -32,20 +35,17 @@ _gives_ answered stated = record { answered = answered; stated = stated }
 abbrev pub mark : ℕ → ℕ → List ℕ
 mark kind place = kind ∷ place ∷ []
 
--- "Kind 0 place 0: holds"; "Kind 1: broken, place the first breaking record"; "Kind 2 place 0: not judged"
+-- "Kind 0 place 0: holds"; "Kind 1: broken, place the first breaking record"
 abbrev pub holds : List ℕ
 holds = mark 0 0
 
 abbrev pub broken : ℕ → List ℕ
 broken place = mark 1 place
 
-abbrev pub notJudged : List ℕ
-notJudged = mark 2 0
-
 -- ---- Marks 0 to 19
 -- a file by its number and its text, read into cells that are 0; 64 are enough for each text below
 unfoldable pub reading : ℕ → String → TableRead
-reading file s = fileOf file true (fieldsOf file) (codes s) (replicate 64 0)
+reading file s = fileOf (schedule .expected file) (Given (codes s)) (replicate 64 0)
 
 unfoldable pub fileMark : ℕ → String → List ℕ
 fileMark file s = let r = reading file s .read in mark (r .kind) (r .place)
@@ -55,27 +55,16 @@ unfoldable pub tableIn : ℕ → String → Table
 tableIn file s = let r = reading file s in table (codes s) (r .cells) (2 * length (fieldsOf file)) (r .read .records)
 
 -- ---- Marks 20 to 80, of rules that read one file
--- number j of the row of mark m: 0 its shape, 1 its file, from 3 on what its shape needs
-abbrev pub column : ℕ → ℕ → ℕ
-column m j = rowCell ruleRows m j
-
-unfoldable pub keyOf : ℕ → Key
-keyOf m =
-    record { a = column m 3; «a_kind» = column m 4; b = column m 5; «b_kind» = column m 6; c = column m 7; «c_kind» = column m 8 }
-
--- the first breaking record, counted from 1, 0 for none: shape 0 is a primary key, 5 no hours below zero, 8 Levels; no
--- other is asked for here
-unfoldable pub breaking : ℕ → Table → ℕ
-breaking m t =
-    cond (eqb (column m 0) 0) (keyRule t (keyOf m) .«record»)
-    (cond (eqb (column m 0) 5) (noneBelow t (column m 3) (column m 4))
-    (cond (eqb (column m 0) 8) (levelRule t (column m 3)) 0))
+abbrev pub ruleFor : ℕ → Rule
+ruleFor m = ruleOf schedule m
 
 unfoldable pub ruleMark : ℕ → String → List ℕ
 ruleMark m s =
-    let file = column m 1 in
-    let first = breaking m (tableIn file s) in
-    cond (eqb (reading file s .read .kind) 0) (cond (eqb first 0) holds (broken first)) notJudged
+    let file = firstOf (ruleFor m) in
+    let kind = reading file s .read .kind in
+    let t = tableIn file s in
+    let r = markOf (isJudged kind kind) (ruleBreak valuePlaces valueTexts (ruleFor m) t t) in
+    mark (r .kind) (r .place)
 
 -- ---- What else the cases ask for
 -- an Integer of zero or more; nothing for any other
@@ -99,10 +88,10 @@ marksFrom test (suc n) m = elim (test m) [ true ↦ m ∷ marksFrom test n (suc 
 
 -- "the changed file's mark and those of the rules that read it", and "All other marks come back as handed in"
 unfoldable pub touched : ℕ → List ℕ
-touched file = marksFrom (λ m. readsFile ruleRows m file) 81 0
+touched file = marksFrom (λ m. readsFile schedule m file) (marksOf schedule) 0
 
 unfoldable pub comingBack : ℕ → List ℕ
-comingBack file = marksFrom (λ m. not (readsFile ruleRows m file)) 81 0
+comingBack file = marksFrom (λ m. not (readsFile schedule m file)) (marksOf schedule) 0
 
 -- ---- Texts
 unfoldable pub quoted : String → String

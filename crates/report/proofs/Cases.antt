@@ -1,16 +1,17 @@
--- What the judging program prints, by examples: the one of document 01, an accepted set, large numbers, and refused bundles.
+-- What the judging program prints, by examples: the one of document 01, an accepted set, large numbers, 19 marks, and refused
+-- bundles; and what is written at both sides of each limit.
 -- Assumes nothing.
 use Prim.Native.Nat.{ℕ}
 use mathlib.Core.Path.{_≡_, refl}
 use mathlib.Core.Bool.{Bool, false, cond, _||_}
 use mathlib.Core.List.{List, [], _∷_, map}
+use lib.ListN.{replicate}
 use lib.Dec.{eqb}
-use Rattle.table_fields.specs.Ascii.{codes}
-use Rattle.bundle_bytes.specs.Pieces.{joined}
-use Rattle.rules.specs.declared.Mark.{Mark}
-use Rattle.board.specs.Board.{listOf, boardOf, markIn, notJudged, freshBoard, faultsUpTo, faultsOf, isAccepted}
-use Rattle.board.specs.declared.Board.{Board}
-use Rattle.report.specs.Report.{digitsIn, decimal, lineOf, lineIn, linesUpTo, lastLine, boardText, refusalText, reportOf}
+use Rattle.table_rows.specs.Ascii.{codes}
+use Rattle.mark_numbers.specs.Marks.{Marks, marksIn, marksFrom, holds, notJudged, freshMarks}
+use Rattle.mark_numbers.specs.declared.Mark.{Mark}
+use Rattle.report.specs.Report.{decimal, reportOf, textRoom, textIn}
+use Rattle.report.proofs.Opens.{open-report}
 
 abbrev mark : ℕ → ℕ → Mark
 mark kind place = record { kind = kind; place = place }
@@ -20,29 +21,42 @@ isIn m [] = false
 isIn m (k ∷ ks) = eqb m k || isIn m ks
 
 -- "The bundle with all 20 files omitted": files 0, 1 and 3 are demanded, and four rules read 1 or 3 alone
-abbrev allOmitted : Board
-allOmitted = boardOf (λ m. cond (isIn m (0 ∷ 1 ∷ 3 ∷ [])) (mark 21 0) (cond (isIn m (36 ∷ 37 ∷ 65 ∷ 66 ∷ [])) notJudged (mark 0 0)))
-
-abbrev allHold : Board
-allHold = boardOf (λ m. mark 0 0)
+abbrev allOmitted : Marks
+allOmitted = marksFrom 81 (λ m. cond (isIn m (0 ∷ 1 ∷ 3 ∷ [])) (mark 21 0) (cond (isIn m (36 ∷ 37 ∷ 65 ∷ 66 ∷ [])) notJudged holds))
 
 -- the last byte of the largest bundle, and the last record
-abbrev farPlaces : Board
-farPlaces = boardOf (λ m. cond (eqb m 19) (mark 11 1048575) (cond (eqb m 80) (mark 1 4096) (mark 0 0)))
+abbrev farPlaces : Marks
+farPlaces = marksFrom 81 (λ m. cond (eqb m 19) (mark 11 1048575) (cond (eqb m 80) (mark 1 4096) holds))
 
-pub boards : map (reportOf 0) (allOmitted ∷ allHold ∷ farPlaces ∷ [])
+abbrev nineteen : Marks
+nineteen = marksFrom 19 (λ m. cond (eqb m 18) (mark 1 7) holds)
+
+pub boards : map (reportOf 0) (allOmitted ∷ marksFrom 81 (λ m. holds) ∷ farPlaces ∷ nineteen ∷ [])
     ≡ map codes
     ("marks 81\n0 21 0\n1 21 0\n3 21 0\n36 2 0\n37 2 0\n65 2 0\n66 2 0\nrefused 7\n" ∷
     "marks 81\naccepted\n" ∷
     "marks 81\n19 11 1048575\n80 1 4096\nrefused 2\n" ∷
+    "marks 19\n18 1 7\nrefused 1\n" ∷
     [])
-unfolding digitsIn decimal lineOf lineIn linesUpTo lastLine boardText refusalText reportOf listOf boardOf markIn faultsUpTo faultsOf isAccepted joined codes
+unfolding open-report
 boards = refl
 
-pub refusals : map (λ refusal. reportOf refusal freshBoard) (1 ∷ 2 ∷ 3 ∷ []) ≡ map codes ("bundle 1\n" ∷ "bundle 2\n" ∷ "bundle 3\n" ∷ [])
-unfolding digitsIn decimal refusalText reportOf codes
+pub refusals : map (λ refusal. reportOf refusal (freshMarks 81)) (1 ∷ 2 ∷ 3 ∷ []) ≡ map codes ("bundle 1\n" ∷ "bundle 2\n" ∷ "bundle 3\n" ∷ [])
+unfolding open-report
 refusals = refl
 
+pub rooms : map textRoom (19 ∷ 81 ∷ 85 ∷ 999 ∷ []) ≡ 1616 ∷ 4096 ∷ 4256 ∷ 40816 ∷ []
+rooms = refl
+
+-- the room that is asked and one byte less, the most marks and one more, and lists that don't agree
+abbrev unjudged : ℕ → ℕ → Marks
+unjudged kinds places = marksIn (replicate kinds 2) (replicate places 0)
+
+pub limits : textIn 1 (unjudged 81 81) 4096 ∷ textIn 1 (unjudged 81 81) 4095 ∷ textIn 1 (unjudged 999 999) 40816 ∷ textIn 1 (unjudged 1000 1000) 40856 ∷ textIn 1 (unjudged 81 80) 4096 ∷ []
+    ≡ map codes ("bundle 1\n" ∷ "" ∷ "bundle 1\n" ∷ "" ∷ "" ∷ [])
+unfolding open-report
+limits = refl
+
 pub numbers : map decimal (0 ∷ 9 ∷ 10 ∷ 99 ∷ 100 ∷ 4294967295 ∷ 18446744073709551615 ∷ []) ≡ map codes ("0" ∷ "9" ∷ "10" ∷ "99" ∷ "100" ∷ "4294967295" ∷ "18446744073709551615" ∷ [])
-unfolding digitsIn decimal codes
+unfolding open-report
 numbers = refl

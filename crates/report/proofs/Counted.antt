@@ -6,15 +6,14 @@ use mathlib.Core.Bool.{Bool, true, false, cond}
 use mathlib.Core.List.{List, [], _∷_, _++_}
 use native.Mathlib.Omega.{arith}
 use borrow.Author.Tests.{ne-eqb, ltb-true, ltb-false}
-use lib.ListN.{getD}
+use lib.ListN.{length, getD}
 use lib.Dec.{ltb, eqb}
-use Rattle.table_fields.specs.Ascii.{codes}
+use Rattle.table_rows.specs.Ascii.{codes}
 use Rattle.bundle_bytes.specs.Pieces.{joined}
-use Rattle.rules.specs.declared.Mark.{Mark}
-use Rattle.board.specs.Board.{markIn, faultsUpTo, faultsOf}
-use Rattle.board.specs.declared.Board.{Board}
+use Rattle.mark_numbers.specs.Marks.{Marks, markIn, faultsUpTo, faultsIn}
+use Rattle.mark_numbers.specs.declared.Mark.{Mark}
 use Rattle.report.specs.Report.{digitsIn, decimal, lineOf, lineIn, linesUpTo}
-use Rattle.report.proofs.Laws.{digits-last, digits-more}
+use Rattle.report.proofs.Digits.{digits-last, digits-more}
 
 unfoldable pub feedsIn : List ℕ → ℕ
 feedsIn [] = 0
@@ -43,20 +42,25 @@ decimal-feeds : (x : ℕ) → feedsIn (decimal x) ≡ 0
 unfolding decimal
 decimal-feeds x = digits-feeds (suc x) x
 
-line-feeds : (m : ℕ) (mark : Mark) → feedsIn (lineOf m mark) ≡ 1
+line-feeds : (m : ℕ) (mark : Mark) → feedsIn (lineOf m mark) ≡ cond (eqb (mark .kind) 0) 0 1
 unfolding lineOf codes feedsIn
-line-feeds m mark = simp (feeds-append, decimal-feeds)
+line-feeds m mark = go (eqb (mark .kind) 0)
+  where
+    go : (t : Bool) → feedsIn (cond t [] (decimal m ++ codes " " ++ decimal (mark .kind) ++ codes " " ++ decimal (mark .place) ++ codes "\n")) ≡ cond t 0 1
+    go true = refl
+    go false = simp (feeds-append, decimal-feeds)
 
 -- the lines of the marks below n are as many as the faults among them
-pub lines-counted : (board : Board) (n : ℕ) → feedsIn (linesUpTo board n) ≡ faultsUpTo (board .kinds) n
+lines-counted : (marks : Marks) (n : ℕ) → feedsIn (linesUpTo marks n) ≡ faultsUpTo (marks .kinds) n
 unfolding linesUpTo joined lineIn markIn faultsUpTo feedsIn
-lines-counted board zero = refl
-lines-counted board (suc n) = feeds-append (joined (lineIn board) n) (lineIn board n) ∙ go (eqb (getD (board .kinds) n 0) 0) (lines-counted board n)
+lines-counted marks zero = refl
+lines-counted marks (suc n) =
+    feeds-append (joined (lineIn marks) n) (lineIn marks n) ∙ rw (line-feeds n (markIn marks n), lines-counted marks n) (go (eqb (getD (marks .kinds) n 0) 0) (faultsUpTo (marks .kinds) n))
   where
-    go : (t : Bool) → feedsIn (joined (lineIn board) n) ≡ faultsUpTo (board .kinds) n → feedsIn (joined (lineIn board) n) + feedsIn (cond t [] (lineOf n (markIn board n))) ≡ cond t (faultsUpTo (board .kinds) n) (faultsUpTo (board .kinds) n + 1)
-    go true h = omega arith
-    go false h = omega (arith, line-feeds n (markIn board n))
+    go : (t : Bool) (found : ℕ) → found + cond t 0 1 ≡ cond t found (found + 1)
+    go true found = omega arith
+    go false found = refl
 
-pub last-count : (board : Board) → feedsIn (linesUpTo board 81) ≡ faultsOf board
-unfolding faultsOf
-last-count board = lines-counted board 81
+pub last-count : (marks : Marks) → feedsIn (linesUpTo marks (length (marks .kinds))) ≡ faultsIn (marks .kinds)
+unfolding faultsIn
+last-count marks = lines-counted marks (length (marks .kinds))

@@ -1,5 +1,7 @@
-pub mod Laws
+pub mod Opens
+pub mod Digits
 pub mod Puts
 pub mod Lengths
+pub mod Written
 pub mod Counted
 pub mod Cases

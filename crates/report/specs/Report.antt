@@ -1,14 +1,13 @@
--- Document 01, "The judging program": what it prints, as bytes. Every line ends in a line feed.
-use Prim.Native.Nat.{ℕ, zero, suc, _+_, _/_, _%_}
-use mathlib.Core.Bool.{true, false, cond}
+-- Document 01, "The judging program": what it prints, as bytes, of marks however many. Every line ends in a line feed.
+use Prim.Native.Nat.{ℕ, zero, suc, _+_, _*_, _/_, _%_}
+use mathlib.Core.Bool.{Bool, true, false, cond, _&&_}
 use mathlib.Core.List.{List, [], _∷_, _++_}
 use lib.ListN.{length}
 use lib.Dec.{leb, ltb, eqb}
-use Rattle.table_fields.specs.Ascii.{codes}
+use Rattle.table_rows.specs.Ascii.{codes}
 use Rattle.bundle_bytes.specs.Pieces.{joined}
-use Rattle.rules.specs.declared.Mark.{Mark}
-use Rattle.board.specs.Board.{markIn, faultsOf, isAccepted}
-use Rattle.board.specs.declared.Board.{Board}
+use Rattle.mark_numbers.specs.Marks.{Marks, markIn, faultsIn}
+use Rattle.mark_numbers.specs.declared.Mark.{Mark}
 
 -- ---- Numbers
 -- the decimal digits of a number below f, no zeros before them
@@ -20,38 +19,55 @@ digitsIn (suc f) x =
 unfoldable pub decimal : ℕ → List ℕ
 decimal x = digitsIn (suc x) x
 
--- with a byte behind them
-abbrev pub ended : ℕ → ℕ → List ℕ
-ended x end = decimal x ++ (end ∷ [])
-
--- the place behind bytes v that are written over bytes d from a place on; where there is no room for v, that place
-unfoldable pub placeBehind : List ℕ → ℕ → List ℕ → ℕ
-placeBehind d at v = cond (leb (at + length v) (length d)) (at + length v) at
-
 -- ---- Lines
--- "a line of its number, kind and place, single spaces between"
-unfoldable pub lineOf : ℕ → Mark → List ℕ
-lineOf m mark = decimal m ++ codes " " ++ decimal (mark .kind) ++ codes " " ++ decimal (mark .place) ++ codes "\n"
+-- a word and a number
+unfoldable pub counted : List ℕ → ℕ → List ℕ
+counted word x = word ++ decimal x ++ codes "\n"
 
--- "for each mark of kind other than 0"
-unfoldable pub lineIn : Board → ℕ → List ℕ
-lineIn board m = cond (eqb (markIn board m .kind) 0) [] (lineOf m (markIn board m))
+-- "for each mark of kind other than 0 a line of its number, kind and place, single spaces between"
+unfoldable pub lineOf : ℕ → Mark → List ℕ
+lineOf m mark =
+    cond (eqb (mark .kind) 0) []
+    (decimal m ++ codes " " ++ decimal (mark .kind) ++ codes " " ++ decimal (mark .place) ++ codes "\n")
+
+unfoldable pub lineIn : Marks → ℕ → List ℕ
+lineIn marks m = lineOf m (markIn marks m)
 
 -- the lines of the marks below m
-unfoldable pub linesUpTo : Board → ℕ → List ℕ
-linesUpTo board m = joined (lineIn board) m
+unfoldable pub linesUpTo : Marks → ℕ → List ℕ
+linesUpTo marks m = joined (lineIn marks) m
+
+-- "The set is accepted if all .. hold."
+unfoldable pub isAccepted : List ℕ → Bool
+isAccepted kinds = eqb (faultsIn kinds) 0
 
 -- "then `accepted`, or `refused` and the count of those lines"
-unfoldable pub lastLine : Board → List ℕ
-lastLine board = cond (isAccepted board) (codes "accepted\n") (codes "refused " ++ decimal (faultsOf board) ++ codes "\n")
+unfoldable pub lastLine : List ℕ → List ℕ
+lastLine kinds = cond (isAccepted kinds) (codes "accepted\n") (counted (codes "refused ") (faultsIn kinds))
 
 -- ---- The whole text
-unfoldable pub boardText : Board → List ℕ
-boardText board = codes "marks 81\n" ++ linesUpTo board 81 ++ lastLine board
+unfoldable pub boardText : Marks → List ℕ
+boardText marks =
+    counted (codes "marks ") (length (marks .kinds)) ++ linesUpTo marks (length (marks .kinds)) ++ lastLine (marks .kinds)
 
 -- "A refused bundle prints only `bundle` and the number"
 unfoldable pub refusalText : ℕ → List ℕ
-refusalText refusal = codes "bundle " ++ decimal refusal ++ codes "\n"
+refusalText refusal = counted (codes "bundle ") refusal
 
-unfoldable pub reportOf : ℕ → Board → List ℕ
-reportOf refusal board = cond (eqb refusal 0) (boardText board) (refusalText refusal)
+unfoldable pub reportOf : ℕ → Marks → List ℕ
+reportOf refusal marks = cond (eqb refusal 0) (boardText marks) (refusalText refusal)
+
+-- ---- What is written
+-- the room that is asked for n marks, at most 999, and that each of their texts fits
+abbrev pub textRoom : ℕ → ℕ
+textRoom n = 40 * n + 856
+
+unfoldable pub isPrinted : Marks → ℕ → Bool
+isPrinted marks room =
+    eqb (length (marks .kinds)) (length (marks .places)) &&
+    leb (length (marks .kinds)) 999 &&
+    leb (textRoom (length (marks .kinds))) room
+
+-- the text that goes to an output with so much room; none where it has too little, or the lists don't agree
+unfoldable pub textIn : ℕ → Marks → ℕ → List ℕ
+textIn refusal marks room = cond (isPrinted marks room) (reportOf refusal marks) []

@@ -1,164 +1,143 @@
-// The judging program's text, made from a board or a refusal.
+// The judging program's text, made from marks or a refusal.
 ghost use mathlib.Core.Path.{_≡_};
-ghost use mathlib.Core.Bool.{cond};
-ghost use mathlib.Core.List.{_++_};
-ghost use Prim.Native.Nat.{_+_, _≤_, _<_};
+ghost use mathlib.Core.List.{[], _∷_, _++_};
+ghost use Prim.Native.Nat.{_+_, _%_, _≤_};
 ghost use lib.ListN.{length, drop};
-ghost use lib.Dec.{leb};
-ghost use Rattle.bundle_bytes.specs.Pieces.{written};
-ghost use Rattle.report.specs.Report.{decimal, ended, placeBehind, lineOf, linesUpTo, lastLine, boardText, reportOf};
-use board::Board;
-use board::count_faults;
-use board::is_accepted;
-use bundle_bytes::put_part;
-use rules::Mark;
+ghost use Rattle.mark_numbers.specs.Marks.{marksIn};
+ghost use Rattle.report.specs.Report.{decimal, counted, lineOf, linesUpTo, lastLine, boardText, textIn};
+ghost use Rattle.report.specs.Output.{outputAt, put, ended};
+use mark_numbers::Mark;
+use mark_numbers::count_faults;
 
-// Writes bytes from a place on, where there is room; answers the place behind them.
+// Puts a byte to a place, where there is room; answers the place behind it. The functions below put
+// what they make in the same way.
+fn put_byte(out: &mut [u8], at: usize, b: u8) -> usize
+    ensures { λ r. ⌜ outputAt (now (out .exit)) r ≡ put (outputAt (now (out .entry)) at) (b ∷ []) ⌝ }
+{
+    if at < out.len() {
+        out[at] = b;
+        return at + 1;
+    }
+    at
+}
+
 fn put_text(out: &mut [u8], at: usize, text: &[u8]) -> usize
-    ensures { λ r. ⌜ r ≡ placeBehind (now (out .entry)) at (now (text .entry)) ⌝ }
-    ensures { λ _. ⌜ now (out .exit) ≡ written (now (out .entry)) at (now (text .entry)) ⌝ }
+    ensures { λ r. ⌜ outputAt (now (out .exit)) r ≡ put (outputAt (now (out .entry)) at) (now (text .entry)) ⌝ }
 {
-    if out.len() < text.len() {
-        return at;
-    }
-    if out.len() - text.len() < at {
-        return at;
-    }
-    put_part(out, at, text);
-    at + text.len()
-}
-
-fn digit(x: usize) -> u8
-    requires { ⌜ x < 10 ⌝ }
-    ensures { λ r. ⌜ r ≡ 48 + x ⌝ }
-{
-    48 + x as u8
-}
-
-// The digits of a number, written from the end of 20 bytes on backwards; where they start.
-fn lay_digits(digits: &mut [u8], x: usize) -> usize
-    requires { ⌜ length (now digits) ≡ 20 ⌝ }
-    ensures { λ r. ⌜ drop r (now (digits .exit)) ≡ decimal x ⌝ }
-    ensures { λ r. ⌜ r < 20 ⌝ }
-{
-    let mut left = x;
-    let mut i = 19;
-    while 9 < left {
-        digits[i] = digit(left % 10);
-        left = left / 10;
-        i -= 1;
-    }
-    digits[i] = digit(left);
-    i
-}
-
-// Writes a number's decimal digits from a place on, where there is room; answers the place behind
-// them, or the same place.
-pub fn put_number(out: &mut [u8], at: usize, x: usize) -> usize
-    ensures { λ r. ⌜ r ≡ placeBehind (now (out .entry)) at (decimal x) ⌝ }
-    ensures { λ _. ⌜ now (out .exit) ≡ written (now (out .entry)) at (decimal x) ⌝ }
-{
-    let mut digits = [0u8; 20];
-    let from = lay_digits(&mut digits, x);
-    put_text(out, at, &digits[from..])
-}
-
-// A number with a byte behind it. This and the functions below that are not public have room for what
-// they write, and answer the place behind it.
-fn put_ended(out: &mut [u8], at: usize, x: usize, end: u8) -> usize
-    requires { ⌜ at + length (ended x end) ≤ length (now out) ⌝ }
-    ensures { λ r. ⌜ r ≡ at + length (ended x end) ⌝ }
-    ensures { λ _. ⌜ now (out .exit) ≡ written (now (out .entry)) at (ended x end) ⌝ }
-{
-    let next = put_number(out, at, x);
-    out[next] = end;
-    next + 1
-}
-
-// A mark's line.
-fn put_line(out: &mut [u8], at: usize, m: usize, mark: Mark) -> usize
-    requires { ⌜ at + length (lineOf m mark) ≤ length (now out) ⌝ }
-    ensures { λ r. ⌜ r ≡ at + length (lineOf m mark) ⌝ }
-    ensures { λ _. ⌜ now (out .exit) ≡ written (now (out .entry)) at (lineOf m mark) ⌝ }
-{
-    let kind = mark.kind as usize;
-    let place = mark.place;
-    let next = put_ended(out, at, m, b' ');
-    let last = put_ended(out, next, kind, b' ');
-    put_ended(out, last, place, b'\n')
-}
-
-// The lines of the marks that don't hold.
-fn put_lines(out: &mut [u8], at: usize, board: Board) -> usize
-    requires { ⌜ at + length (linesUpTo board 81) ≤ length (now out) ⌝ }
-    ensures { λ r. ⌜ r ≡ at + length (linesUpTo board 81) ⌝ }
-    ensures { λ _. ⌜ now (out .exit) ≡ written (now (out .entry)) at (linesUpTo board 81) ⌝ }
-{
-    let kinds = board.kinds;
-    let places = board.places;
     let mut end = at;
-    let mut m = 0;
-    while m < 81 {
-        if kinds[m] == 0 {
-            m += 1;
-        } else {
-            let mark = Mark {
-                kind: kinds[m],
-                place: places[m],
-            };
-            end = put_line(out, end, m, mark);
-            m += 1;
-        }
+    let mut i = 0;
+    while i < text.len() {
+        end = put_byte(out, end, text[i]);
+        i += 1;
     }
     end
 }
 
+// A number's last digit.
+fn put_digit(out: &mut [u8], at: usize, x: usize) -> usize
+    ensures { λ r. ⌜ outputAt (now (out .exit)) r ≡ put (outputAt (now (out .entry)) at) ((48 + x % 10) ∷ []) ⌝ }
+{
+    put_byte(out, at, 48 + (x % 10) as u8)
+}
+
+// All of them: those before the last are the digits of a tenth of it.
+fn put_number(out: &mut [u8], at: usize, x: usize) -> usize
+    ensures { λ r. ⌜ outputAt (now (out .exit)) r ≡ put (outputAt (now (out .entry)) at) (decimal x) ⌝ }
+{
+    if x < 10 {
+        return put_digit(out, at, x);
+    }
+    let next = put_number(out, at, x / 10);
+    put_digit(out, next, x)
+}
+
+// A number with a byte behind it.
+fn put_ended(out: &mut [u8], at: usize, x: usize, end: u8) -> usize
+    ensures { λ r. ⌜ outputAt (now (out .exit)) r ≡ put (outputAt (now (out .entry)) at) (ended x end) ⌝ }
+{
+    let next = put_number(out, at, x);
+    put_byte(out, next, end)
+}
+
 // A word and a number, as a line.
 fn put_counted(out: &mut [u8], at: usize, word: &[u8], x: usize) -> usize
-    requires { ⌜ at + length (now word ++ ended x 10) ≤ length (now out) ⌝ }
-    ensures { λ r. ⌜ r ≡ at + length (now (word .entry) ++ ended x 10) ⌝ }
-    ensures { λ _. ⌜ now (out .exit) ≡ written (now (out .entry)) at (now (word .entry) ++ ended x 10) ⌝ }
+    ensures { λ r. ⌜ outputAt (now (out .exit)) r ≡ put (outputAt (now (out .entry)) at) (counted (now (word .entry)) x) ⌝ }
 {
     let next = put_text(out, at, word);
     put_ended(out, next, x, b'\n')
 }
 
-// The line behind them.
-fn put_last(out: &mut [u8], at: usize, board: Board) -> usize
-    requires { ⌜ at + length (lastLine board) ≤ length (now out) ⌝ }
-    ensures { λ r. ⌜ r ≡ at + length (lastLine board) ⌝ }
-    ensures { λ _. ⌜ now (out .exit) ≡ written (now (out .entry)) at (lastLine board) ⌝ }
+// A mark's line; one that holds has none.
+fn put_line(out: &mut [u8], at: usize, m: usize, mark: Mark) -> usize
+    ensures { λ r. ⌜ outputAt (now (out .exit)) r ≡ put (outputAt (now (out .entry)) at) (lineOf m mark) ⌝ }
 {
-    if is_accepted(board) {
+    let kind = mark.kind as usize;
+    let place = mark.place;
+    if kind == 0 {
+        return at;
+    }
+    let next = put_ended(out, at, m, b' ');
+    let last = put_ended(out, next, kind, b' ');
+    put_ended(out, last, place, b'\n')
+}
+
+fn put_lines(out: &mut [u8], at: usize, kinds: &[u32], places: &[usize]) -> usize
+    requires { ⌜ length (now kinds) ≤ length (now places) ⌝ }
+    ensures { λ r. ⌜ outputAt (now (out .exit)) r ≡ put (outputAt (now (out .entry)) at) (linesUpTo (marksIn (now (kinds .entry)) (now (places .entry))) (length (now (kinds .entry)))) ⌝ }
+{
+    let mut end = at;
+    let mut m = 0;
+    while m < kinds.len() {
+        let mark = Mark {
+            kind: kinds[m],
+            place: places[m],
+        };
+        end = put_line(out, end, m, mark);
+        m += 1;
+    }
+    end
+}
+
+// The line behind them.
+fn put_last(out: &mut [u8], at: usize, kinds: &[u32]) -> usize
+    ensures { λ r. ⌜ outputAt (now (out .exit)) r ≡ put (outputAt (now (out .entry)) at) (lastLine (now (kinds .entry))) ⌝ }
+{
+    let count = count_faults(kinds);
+    if count == 0 {
         return put_text(out, at, b"accepted\n");
     }
-    let count = count_faults(board);
     put_counted(out, at, b"refused ", count)
 }
 
-// The whole text of a board.
-fn put_board(out: &mut [u8], at: usize, board: Board) -> usize
-    requires { ⌜ at + length (boardText board) ≤ length (now out) ⌝ }
-    ensures { λ r. ⌜ r ≡ at + length (boardText board) ⌝ }
-    ensures { λ _. ⌜ now (out .exit) ≡ written (now (out .entry)) at (boardText board) ⌝ }
+// The whole text of marks.
+fn put_board(out: &mut [u8], at: usize, kinds: &[u32], places: &[usize]) -> usize
+    requires { ⌜ length (now kinds) ≤ length (now places) ⌝ }
+    ensures { λ r. ⌜ outputAt (now (out .exit)) r ≡ put (outputAt (now (out .entry)) at) (boardText (marksIn (now (kinds .entry)) (now (places .entry)))) ⌝ }
 {
-    let lines = put_text(out, at, b"marks 81\n");
-    let last = put_lines(out, lines, board);
-    put_last(out, last, board)
+    let lines = put_counted(out, at, b"marks ", kinds.len());
+    let last = put_lines(out, lines, kinds, places);
+    put_last(out, last, kinds)
 }
 
-// Writes the text of a refusal, or with none that of a board, to the front of an output of at least
-// 4,096 bytes, which holds every such text; answers its length.
-pub fn report(refusal: u32, board: Board, out: &mut [u8]) -> usize
-    ensures { λ r. ⌜ r ≡ cond (leb 4096 (length (now (out .entry)))) (length (reportOf refusal board)) 0 ⌝ }
-    ensures { λ _. ⌜ now (out .exit) ≡ cond (leb 4096 (length (now (out .entry)))) (reportOf refusal board ++ drop (length (reportOf refusal board)) (now (out .entry))) (now (out .entry)) ⌝ }
-    ensures { λ r. ⌜ r ≤ 4096 ⌝ }
+// Writes the text of a refusal, or with none that of marks, to the front of an output that holds
+// every such text; answers its length. It writes nothing to a shorter output, and nothing of lists
+// that don't agree or have over 999 marks.
+pub fn report(refusal: u32, kinds: &[u32], places: &[usize], out: &mut [u8]) -> usize
+    ensures { λ r. ⌜ r ≡ length (textIn refusal (marksIn (now (kinds .entry)) (now (places .entry))) (length (now (out .entry)))) ⌝ }
+    ensures { λ _. ⌜ now (out .exit) ≡ textIn refusal (marksIn (now (kinds .entry)) (now (places .entry))) (length (now (out .entry))) ++ drop (length (textIn refusal (marksIn (now (kinds .entry)) (now (places .entry))) (length (now (out .entry))))) (now (out .entry)) ⌝ }
+    ensures { λ r. ⌜ r ≤ length (now (out .entry)) ⌝ }
 {
-    if out.len() < 4096 {
+    if kinds.len() != places.len() {
+        return 0;
+    }
+    if 999 < kinds.len() {
+        return 0;
+    }
+    if out.len() < 40 * kinds.len() + 856 {
         return 0;
     }
     if refusal == 0 {
-        return put_board(out, 0, board);
+        return put_board(out, 0, kinds, places);
     }
     put_counted(out, 0, b"bundle ", refusal as usize)
 }

@@ -7,8 +7,6 @@ use lib.Dec.{ltb}
 use Rattle.json_number.specs.declared.Sign.{Sign}
 use Rattle.json_number.specs.declared.Sign.the-variants.{Zero, Above, Below}
 use Rattle.rule_cells.specs.Cells.{Table, table, isGiven, signIn, firstOf}
-use Rattle.rule_hours.specs.declared.Ask.{Ask}
-use Rattle.rule_hours.specs.declared.Ask.the-variants.{Negative, Positive, Given, Null}
 use Rattle.rule_hours.specs.declared.Shape.{Shape}
 use Rattle.rule_hours.specs.declared.Shape.the-variants.{SomeBelow, NoneAbove, Mixed}
 
@@ -44,12 +42,6 @@ isAbove t r k = aboveZero (signIn t r k)
 
 unfoldable pub isNull : List ℕ → ℕ → ℕ → ℕ → Bool
 isNull cells width r k = not (isGiven cells width r k)
-
-unfoldable pub passes : Ask → Table → ℕ → ℕ → Bool
-passes Negative t = isBelow t
-passes Positive t = isAbove t
-passes Given t = isGiven (t .cells) (t .width)
-passes Null t = isNull (t .cells) (t .width)
 
 -- ---- When a record breaks a rule over the run
 unfoldable pub breaks : Shape → Table → ℕ → ℕ → ℕ → Bool

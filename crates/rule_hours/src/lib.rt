@@ -2,7 +2,8 @@
 // hours beside zero, and fields that are null together.
 ghost use mathlib.Core.Path.{_≡_};
 ghost use Rattle.rule_cells.specs.Cells.{table, firstOf};
-ghost use Rattle.rule_hours.specs.Hours.{belowZero, aboveZero, firstField, anyField, isBelow, isNull, passes, breaks, noneBelow, someAbove, together};
+ghost use Rattle.rule_hours.specs.Hours.{belowZero, aboveZero, firstField, anyField, isBelow, isNull, breaks, noneBelow, someAbove, together};
+ghost use Rattle.rule_hours.specs.Asked.{passes};
 use json_number::Sign;
 use rule_cells::is_given;
 use rule_cells::sign_in;

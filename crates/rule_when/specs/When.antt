@@ -3,7 +3,7 @@ use Prim.Native.Nat.{ℕ}
 use mathlib.Core.Bool.{Bool, true, false, cond, _||_}
 use mathlib.Core.List.{List}
 use lib.Dec.{eqb}
-use Rattle.table_fields.specs.Flat.{valueTextAt}
+use Rattle.table_rows.specs.Rows.{valueTextAt}
 use Rattle.rule_cells.specs.Cells.{Table, isGiven, isTrue, isWord}
 use Rattle.rule_when.specs.declared.When.{When}
 

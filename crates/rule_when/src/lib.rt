@@ -3,12 +3,12 @@ ghost use mathlib.Core.Path.{_≡_};
 ghost use mathlib.Core.Bool.{_||_};
 ghost use Rattle.rule_cells.specs.Cells.{table};
 ghost use Rattle.rule_when.specs.When.{isValue, holdsWhen};
+use parts::part;
 use rule_cells::is_given;
 use rule_cells::is_true;
 use rule_cells::is_word;
-use table_fields::part;
-use table_fields::value_end;
-use table_fields::value_start;
+use table_rows::value_end;
+use table_rows::value_start;
 
 // kind 0: always; 1: the field is given; 2: it is true; any other: it is value `first` or value
 // `second` of the enumeration values, by their numbers.

@@ -9,11 +9,11 @@ use lib.Dec.{leb}
 use lib.ListN.{length}
 use Rattle.json_bytes.proofs.Laws.{both-left}
 use Rattle.rule_cells.specs.Cells.{Table}
-use Rattle.rule_outline.specs.Outline.{hasRoom, withParents, heldIn, parentRule, parentTypeRule}
+use Rattle.rule_outline.specs.Outline.{hasRoom, withParents, heldIn, parentOf, parentRule, parentTypeRule}
 use Rattle.rule_outline.specs.declared.Outline.{Outline}
 use Rattle.rule_outline.proofs.Rules.{filled-parent-rule, filled-parent-type-rule}
-use Rattle.rule_rows.specs.Rules.{rowCell}
-use Rattle.rules.specs.Judge.{alone, ofOutline, parentBreak, parentTypeBreak}
+use Rattle.rules.specs.Judge.{alone, ofOutline, parentBreak}
+use Rattle.rules.specs.declared.Break.{Break}
 
 -- ---- Room
 few : (n : ℕ) (list : List ℕ) → hasRoom n list ≡ true → leb n 4096 ≡ true
@@ -29,26 +29,21 @@ unfolding hasRoom
 many n list l e = both-false (leb n 4096) (rw l at e)
 
 -- ---- Over a list with room, as it was after it was filled
-module _ (rows : List ℕ) (m : ℕ) (t : Table) (list held : List ℕ) (level task : ℕ) (found : Outline) where
-  module _ (room : hasRoom (t .records) list ≡ true) (filled : held ≡ withParents t level list) (is-level : level ≡ rowCell rows m 4) (is-task : task ≡ rowCell rows m 5) where
-    pub parent-judged : (k : ℕ) → k ≡ rowCell rows m 3 → found ≡ parentRule t level task k (heldIn held) → ofOutline found ≡ parentBreak rows m t
+module _ (t : Table) (list held : List ℕ) (level id : ℕ) (found : Outline) where
+  module _ (room : hasRoom (t .records) list ≡ true) (filled : held ≡ withParents t level list) where
+    pub parent-judged : (parent : ℕ) → found ≡ parentRule t level id parent (heldIn held) → ofOutline found ≡ parentBreak t (parentRule t level id parent (parentOf t level))
     unfolding parentBreak
-    parent-judged k is-k e =
-        rw (few (t .records) list room, ← is-level, ← is-task, ← is-k)
-        (ap ofOutline (e ∙ ap (λ h. parentRule t level task k (heldIn h)) filled ∙ filled-parent-rule t level list room task k))
+    parent-judged parent e =
+        rw (few (t .records) list room)
+        (ap ofOutline (e ∙ ap (λ h. parentRule t level id parent (heldIn h)) filled ∙ filled-parent-rule t level list room id parent))
 
-    pub parent-type-judged : (u : Table) (id type : ℕ) (word : List ℕ) → id ≡ rowCell rows m 6 → type ≡ rowCell rows m 7 → found ≡ parentTypeRule t level task (heldIn held) u id type word → ofOutline found ≡ parentTypeBreak rows m t u word
-    unfolding parentTypeBreak
-    parent-type-judged u id type word is-id is-type e =
-        rw (few (t .records) list room, ← is-level, ← is-task, ← is-id, ← is-type)
-        (ap ofOutline (e ∙ ap (λ h. parentTypeRule t level task (heldIn h) u id type word) filled ∙ filled-parent-type-rule t level list room task u id type word))
+    pub parent-type-judged : (u : Table) (uid type : ℕ) (word : List ℕ) → found ≡ parentTypeRule t level id (heldIn held) u uid type word → ofOutline found ≡ parentBreak t (parentTypeRule t level id (parentOf t level) u uid type word)
+    unfolding parentBreak
+    parent-type-judged u uid type word e =
+        rw (few (t .records) list room)
+        (ap ofOutline (e ∙ ap (λ h. parentTypeRule t level id (heldIn h) u uid type word) filled ∙ filled-parent-type-rule t level list room id u uid type word))
 
 -- ---- Without room
-module _ (rows : List ℕ) (m : ℕ) (t : Table) (list : List ℕ) (l : length list ≡ 4096) (none : hasRoom (t .records) list ≡ false) where
-  pub parent-left : alone 0 ≡ parentBreak rows m t
-  unfolding parentBreak
-  parent-left = rw (many (t .records) list l none)
-
-  pub parent-type-left : (u : Table) (word : List ℕ) → alone 0 ≡ parentTypeBreak rows m t u word
-  unfolding parentTypeBreak
-  parent-type-left u word = rw (many (t .records) list l none)
+pub parent-left : (t : Table) (list : List ℕ) (found : Outline) → length list ≡ 4096 → hasRoom (t .records) list ≡ false → alone 0 ≡ parentBreak t found
+unfolding parentBreak
+parent-left t list found l none = rw (many (t .records) list l none)

@@ -1,42 +1,26 @@
--- A rule by its number: the shape and the columns of its row, over the table that it judges and the table that it looks into.
+-- What a rule finds over the table that it judges and the table that it looks into, and the mark that this gives.
 -- Document 01: "Kind 1: broken, place the first breaking record of the table named first, counted from 1. Kind 2 place 0:
 -- not judged, exactly if some file it reads has a mark other than 0."
 use Prim.Native.Nat.{ℕ}
-use mathlib.Core.Bool.{Bool, true, false, cond, not, _&&_, _||_}
+use mathlib.Core.Bool.{Bool, true, false, cond, _&&_}
 use mathlib.Core.List.{List}
-use lib.Dec.{leb, ltb, eqb}
-use Rattle.table_fields.specs.Flat.{valueTextAt}
+use lib.Dec.{leb, eqb}
+use Rattle.table_rows.specs.Rows.{valueTextAt}
 use Rattle.rule_cells.specs.Cells.{Table}
 use Rattle.rule_key.specs.Key.{keyRule}
-use Rattle.rule_key.specs.declared.Key.{Key}
 use Rattle.rule_key.specs.declared.KeyBreak.{KeyBreak}
-use Rattle.rule_when.specs.declared.When.{When}
 use Rattle.rule_value.specs.Value.{fieldRule}
 use Rattle.rule_value.specs.declared.FieldRule.{FieldRule}
-use Rattle.rule_value.specs.declared.FieldRule.the-variants.{OneOf, NullUnless, GivenIf}
 use Rattle.rule_target.specs.Target.{targetRule}
 use Rattle.rule_hours.specs.Hours.{noneBelow, someAbove, together}
 use Rattle.rule_outline.specs.Outline.{levelRule, parentRule, parentTypeRule, parentOf}
 use Rattle.rule_outline.specs.declared.Outline.{Outline}
-use Rattle.rule_rows.specs.Rules.{rowCell}
+use Rattle.rule_shape.specs.declared.Rule.{Rule}
+use Rattle.rule_shape.specs.declared.Rule.the-variants.{KeyOf, OneOf, NullUnless, GivenIf, GivenUnless, NoneBelow, SomeAbove, Together, LevelRun, ParentGiven, TargetIn, ParentIs}
 use Rattle.rules.specs.declared.Break.{Break}
-use Rattle.rules.specs.declared.Mark.{Mark}
+use Rattle.mark_numbers.specs.declared.Mark.{Mark}
 
--- ---- The columns of a row as the shapes take them
-unfoldable pub keyOf : List ℕ → ℕ → Key
-keyOf rows m =
-    record { a = rowCell rows m 3; «a_kind» = rowCell rows m 4; b = rowCell rows m 5; «b_kind» = rowCell rows m 6; c = rowCell rows m 7; «c_kind» = rowCell rows m 8 }
-
-unfoldable pub whenOf : List ℕ → ℕ → When
-whenOf rows m = record { kind = rowCell rows m 4; field = rowCell rows m 5; first = rowCell rows m 6; second = rowCell rows m 7 }
-
--- shape 1 an enumeration, 2 null unless, any other given if or given unless
-unfoldable pub fieldRuleOf : List ℕ → ℕ → FieldRule
-fieldRuleOf rows m =
-    cond (eqb (rowCell rows m 0) 1) (OneOf (rowCell rows m 4) (rowCell rows m 5))
-    (cond (eqb (rowCell rows m 0) 2) (NullUnless (whenOf rows m)) (GivenIf (whenOf rows m) (eqb (rowCell rows m 8) 1)))
-
--- ---- What a shape finds: the first breaking record, from 1, with the record that goes with it; 0 for none
+-- ---- The first breaking record, from 1, and the record that goes with it; 0 for none
 abbrev pub alone : ℕ → Break
 alone r = record { «record» = r; other = 0 }
 
@@ -46,41 +30,37 @@ ofKey k = record { «record» = k .«record»; other = k .same }
 abbrev pub ofOutline : Outline → Break
 ofOutline o = record { «record» = o .«record»; other = o .parent }
 
--- an outline's rules, over the parents that document 01 gives; no table has over 4,096 records
-unfoldable pub parentBreak : List ℕ → ℕ → Table → Break
-parentBreak rows m t =
-    cond (leb (t .records) 4096)
-    (ofOutline (parentRule t (rowCell rows m 4) (rowCell rows m 5) (rowCell rows m 3) (parentOf t (rowCell rows m 4))))
-    (alone 0)
+-- no table has over 4,096 records, so the parents of all of them fit a list of that length
+unfoldable pub parentBreak : Table → Outline → Break
+parentBreak t found = cond (leb (t .records) 4096) (ofOutline found) (alone 0)
 
-unfoldable pub parentTypeBreak : List ℕ → ℕ → Table → Table → List ℕ → Break
-parentTypeBreak rows m t u word =
-    cond (leb (t .records) 4096)
-    (ofOutline
-    (parentTypeRule t (rowCell rows m 4) (rowCell rows m 5) (parentOf t (rowCell rows m 4)) u (rowCell rows m 6) (rowCell rows m 7) word))
-    (alone 0)
+-- ---- What a rule finds, with the places and the texts of the enumeration values, over the table t that it judges and the
+-- table u that it looks into
+unfoldable pub ruleBreak : List ℕ → List ℕ → Rule → Table → Table → Break
+-- 20–35: "a record whose key equals an earlier one's"
+ruleBreak places texts (KeyOf file key) t u = ofKey (keyRule t key)
+-- 36–47, 65, 66, 72, 76, 71 and 77: a field by itself or by another
+ruleBreak places texts (OneOf file field first count) t u = alone (fieldRule t field (FieldRule.OneOf first count) places texts)
+ruleBreak places texts (NullUnless file field when) t u = alone (fieldRule t field (FieldRule.NullUnless when) places texts)
+ruleBreak places texts (GivenIf file field when) t u = alone (fieldRule t field (FieldRule.GivenIf when true) places texts)
+ruleBreak places texts (GivenUnless file field when) t u = alone (fieldRule t field (FieldRule.GivenIf when false) places texts)
+-- 68, 70, 69 and 75: a run of fields
+ruleBreak places texts (NoneBelow file from to) t u = alone (noneBelow t from to)
+ruleBreak places texts (SomeAbove file from to) t u = alone (someAbove t from to)
+ruleBreak places texts (Together file from to) t u = alone (together (t .cells) (t .width) (t .records) from to)
+-- 78: the run of Levels
+ruleBreak places texts (LevelRun file level) t u = alone (levelRule t level)
+-- 79: "the TaskID of its parent, the nearest earlier record of lower Level"
+ruleBreak places texts (ParentGiven file parent level id) t u = parentBreak t (parentRule t level id parent (parentOf t level))
+-- 48–64, 67, 73 and 74: "Broken at a record exactly if no target record has that ID."
+ruleBreak places texts (TargetIn file field when other id) t u = alone (targetRule t field when u id places texts)
+-- 80: "some task with the parent's TaskID is SUMMARY"
+ruleBreak places texts (ParentIs file parent level id other otherID otherType value) t u =
+    parentBreak t (parentTypeRule t level id (parentOf t level) u otherID otherType (valueTextAt places texts value))
 
--- shapes over one table
-unfoldable pub singleRule : List ℕ → ℕ → Table → List ℕ → List ℕ → Break
-singleRule rows m t places texts =
-    cond (eqb (rowCell rows m 0) 0) (ofKey (keyRule t (keyOf rows m)))
-    (cond (ltb (rowCell rows m 0) 4) (alone (fieldRule t (rowCell rows m 3) (fieldRuleOf rows m) places texts))
-    (cond (eqb (rowCell rows m 0) 5) (alone (noneBelow t (rowCell rows m 3) (rowCell rows m 4)))
-    (cond (eqb (rowCell rows m 0) 6) (alone (someAbove t (rowCell rows m 3) (rowCell rows m 4)))
-    (cond (eqb (rowCell rows m 0) 7) (alone (together (t .cells) (t .width) (t .records) (rowCell rows m 3) (rowCell rows m 4)))
-    (cond (eqb (rowCell rows m 0) 8) (alone (levelRule t (rowCell rows m 3)))
-    (parentBreak rows m t))))))
-
--- shape 4 looks for a target in the second table, shape 10 for the type of a parent's task; the others read one table
-unfoldable pub ruleBreak : List ℕ → ℕ → Table → Table → List ℕ → List ℕ → Break
-ruleBreak rows m t u places texts =
-    cond (eqb (rowCell rows m 0) 4) (alone (targetRule t (rowCell rows m 3) (whenOf rows m) u (rowCell rows m 8) places texts))
-    (cond (eqb (rowCell rows m 0) 10) (parentTypeBreak rows m t u (valueTextAt places texts (rowCell rows m 8)))
-    (singleRule rows m t places texts))
-
--- ---- The mark: of a rule whose first file has mark kind `first`, and its second `second` where it reads one
-unfoldable pub isJudged : List ℕ → ℕ → ℕ → ℕ → Bool
-isJudged rows m first second = eqb first 0 && (eqb (rowCell rows m 2) 0 || eqb second 0)
+-- ---- The mark of a rule, from the kinds of the marks of its two files
+unfoldable pub isJudged : ℕ → ℕ → Bool
+isJudged first second = eqb first 0 && eqb second 0
 
 unfoldable pub markOf : Bool → Break → Mark
 markOf judged b =

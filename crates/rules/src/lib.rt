@@ -1,26 +1,29 @@
-// A rule by its mark's number: reads its row and judges by its shape.
+// A rule judged: the first record that breaks it, and the mark that this gives.
 ghost use mathlib.Core.Path.{_≡_};
 ghost use Rattle.rule_cells.specs.Cells.{table};
-ghost use Rattle.rule_rows.specs.Rules.{rowCell};
-ghost use Rattle.rules.specs.Judge.{keyOf, whenOf, fieldRuleOf, parentBreak, parentTypeBreak, singleRule, ruleBreak, isJudged, markOf};
+ghost use Rattle.rule_outline.specs.Outline.{parentRule, parentTypeRule, parentOf};
+ghost use Rattle.rule_shape.specs.Rule.{ruleFrom};
+ghost use Rattle.rules.specs.Judge.{alone, ofKey, ofOutline, parentBreak, ruleBreak, isJudged, markOf};
+use mark_numbers::Mark;
+use parts::part;
 use rule_hours::none_below;
 use rule_hours::some_above;
 use rule_hours::together;
-use rule_key::Key;
+use rule_key::KeyBreak;
 use rule_key::key_rule;
+use rule_outline::Outline;
 use rule_outline::fill_parents;
 use rule_outline::level_rule;
 use rule_outline::parent_rule;
 use rule_outline::parent_type_rule;
-use rule_rows::row_cell;
+use rule_shape::Rule;
+use rule_shape::rule_at;
 use rule_target::Target;
 use rule_target::target_rule;
 use rule_value::FieldRule;
 use rule_value::field_rule;
-use rule_when::When;
-use table_fields::part;
-use table_fields::value_end;
-use table_fields::value_start;
+use table_rows::value_end;
+use table_rows::value_start;
 
 // The first breaking record, counted from 1, and the record that goes with it: the earliest with
 // the same key, or the parent; 0 for none.
@@ -29,199 +32,93 @@ pub struct Break {
     pub other: usize,
 }
 
-// A mark: its kind and its place.
-pub struct Mark {
-    pub kind: u32,
-    pub place: usize,
+fn alone(record: usize) -> Break
+    ensures { λ r. ⌜ r ≡ alone «record» ⌝ }
+{
+    Break { record, other: 0 }
 }
 
-// A number of a rule's row as a field's number.
-fn column(rows: &[u32], m: usize, j: usize) -> usize
-    ensures { λ r. ⌜ r ≡ rowCell (now (rows .entry)) m j ⌝ }
+fn of_key(found: KeyBreak) -> Break
+    ensures { λ r. ⌜ r ≡ ofKey found ⌝ }
 {
-    row_cell(rows, m, j) as usize
-}
-
-fn key_of(rows: &[u32], m: usize) -> Key
-    ensures { λ r. ⌜ r ≡ keyOf (now (rows .entry)) m ⌝ }
-{
-    Key {
-        a: column(rows, m, 3),
-        a_kind: row_cell(rows, m, 4),
-        b: column(rows, m, 5),
-        b_kind: row_cell(rows, m, 6),
-        c: column(rows, m, 7),
-        c_kind: row_cell(rows, m, 8),
+    Break {
+        record: found.record,
+        other: found.same,
     }
 }
 
-fn when_of(rows: &[u32], m: usize) -> When
-    ensures { λ r. ⌜ r ≡ whenOf (now (rows .entry)) m ⌝ }
+fn of_outline(found: Outline) -> Break
+    ensures { λ r. ⌜ r ≡ ofOutline found ⌝ }
 {
-    When {
-        kind: row_cell(rows, m, 4),
-        field: column(rows, m, 5),
-        first: column(rows, m, 6),
-        second: column(rows, m, 7),
+    Break {
+        record: found.record,
+        other: found.parent,
     }
-}
-
-fn field_rule_of(rows: &[u32], m: usize) -> FieldRule
-    ensures { λ r. ⌜ r ≡ fieldRuleOf (now (rows .entry)) m ⌝ }
-{
-    let shape = row_cell(rows, m, 0);
-    if shape == 1 {
-        return FieldRule::OneOf {
-            first: row_cell(rows, m, 4),
-            count: row_cell(rows, m, 5),
-        };
-    }
-    let when = when_of(rows, m);
-    if shape == 2 {
-        return FieldRule::NullUnless { when };
-    }
-    let wanted = row_cell(rows, m, 8) == 1;
-    FieldRule::GivenIf { when, wanted }
-}
-
-// A rule that reads one table.
-fn single_rule(
-    rows: &[u32],
-    m: usize,
-    s: &[u8],
-    cells: &[u32],
-    width: usize,
-    records: usize,
-    places: &[u32],
-    texts: &[u8],
-) -> Break
-    ensures { λ r. ⌜ r ≡ singleRule (now (rows .entry)) m (table (now (s .entry)) (now (cells .entry)) width records) (now (places .entry)) (now (texts .entry)) ⌝ }
-{
-    let shape = row_cell(rows, m, 0);
-    if shape == 0 {
-        let found = key_rule(s, cells, width, records, key_of(rows, m));
-        return Break {
-            record: found.record,
-            other: found.same,
-        };
-    }
-    let k = column(rows, m, 3);
-    if shape < 4 {
-        let rule = field_rule_of(rows, m);
-        return Break {
-            record: field_rule(s, cells, width, records, k, rule, places, texts),
-            other: 0,
-        };
-    }
-    let to = column(rows, m, 4);
-    if shape == 5 {
-        return Break {
-            record: none_below(s, cells, width, records, k, to),
-            other: 0,
-        };
-    }
-    if shape == 6 {
-        return Break {
-            record: some_above(s, cells, width, records, k, to),
-            other: 0,
-        };
-    }
-    if shape == 7 {
-        return Break {
-            record: together(cells, width, records, k, to),
-            other: 0,
-        };
-    }
-    if shape == 8 {
-        return Break {
-            record: level_rule(s, cells, width, records, k),
-            other: 0,
-        };
-    }
-    parent_break(rows, m, s, cells, width, records)
 }
 
 // Mark 79's rule. The parents are found once for all records and kept while the rule looks at them.
 fn parent_break(
-    rows: &[u32],
-    m: usize,
     s: &[u8],
     cells: &[u32],
     width: usize,
     records: usize,
+    level: usize,
+    id: usize,
+    parent: usize,
 ) -> Break
-    ensures { λ r. ⌜ r ≡ parentBreak (now (rows .entry)) m (table (now (s .entry)) (now (cells .entry)) width records) ⌝ }
+    ensures { λ r. ⌜ r ≡ parentBreak (table (now (s .entry)) (now (cells .entry)) width records) (parentRule (table (now (s .entry)) (now (cells .entry)) width records) level id parent (parentOf (table (now (s .entry)) (now (cells .entry)) width records) level)) ⌝ }
 {
-    let level = column(rows, m, 4);
     let mut parents = [0u32; 4096];
     if fill_parents(s, cells, width, records, level, &mut parents) {
-        let task = column(rows, m, 5);
-        let k = column(rows, m, 3);
-        let found = parent_rule(s, cells, width, records, level, task, k, &parents);
-        return Break {
-            record: found.record,
-            other: found.parent,
-        };
+        return of_outline(parent_rule(s, cells, width, records, level, id, parent, &parents));
     }
-    Break {
-        record: 0,
-        other: 0,
-    }
+    alone(0)
 }
 
 // Mark 80's rule, with the parents kept in the same way.
 fn parent_type_break(
-    rows: &[u32],
-    m: usize,
     s: &[u8],
     cells: &[u32],
     width: usize,
     records: usize,
+    level: usize,
+    id: usize,
     u: &[u8],
     u_cells: &[u32],
     u_width: usize,
     u_records: usize,
+    u_id: usize,
+    u_type: usize,
     word: &[u8],
 ) -> Break
-    ensures { λ r. ⌜ r ≡ parentTypeBreak (now (rows .entry)) m (table (now (s .entry)) (now (cells .entry)) width records) (table (now (u .entry)) (now («u_cells» .entry)) «u_width» «u_records») (now (word .entry)) ⌝ }
+    ensures { λ r. ⌜ r ≡ parentBreak (table (now (s .entry)) (now (cells .entry)) width records) (parentTypeRule (table (now (s .entry)) (now (cells .entry)) width records) level id (parentOf (table (now (s .entry)) (now (cells .entry)) width records) level) (table (now (u .entry)) (now («u_cells» .entry)) «u_width» «u_records») «u_id» «u_type» (now (word .entry))) ⌝ }
 {
-    let level = column(rows, m, 4);
     let mut parents = [0u32; 4096];
     if fill_parents(s, cells, width, records, level, &mut parents) {
-        let task = column(rows, m, 5);
-        let id = column(rows, m, 6);
-        let ty = column(rows, m, 7);
-        let found = parent_type_rule(
+        return of_outline(parent_type_rule(
             s,
             cells,
             width,
             records,
             level,
-            task,
+            id,
             &parents,
             u,
             u_cells,
             u_width,
             u_records,
-            id,
-            ty,
+            u_id,
+            u_type,
             word,
-        );
-        return Break {
-            record: found.record,
-            other: found.parent,
-        };
+        ));
     }
-    Break {
-        record: 0,
-        other: 0,
-    }
+    alone(0)
 }
 
-// The rule of mark m over the table that it judges and the table `u` that it looks into, if it does.
+// Rule i of the rows over the table that it judges and the table `u` that it looks into.
 pub fn rule_break(
     rows: &[u32],
-    m: usize,
+    i: usize,
     s: &[u8],
     cells: &[u32],
     width: usize,
@@ -233,64 +130,106 @@ pub fn rule_break(
     places: &[u32],
     texts: &[u8],
 ) -> Break
-    ensures { λ r. ⌜ r ≡ ruleBreak (now (rows .entry)) m (table (now (s .entry)) (now (cells .entry)) width records) (table (now (u .entry)) (now («u_cells» .entry)) «u_width» «u_records») (now (places .entry)) (now (texts .entry)) ⌝ }
+    ensures { λ r. ⌜ r ≡ ruleBreak (now (places .entry)) (now (texts .entry)) (ruleFrom (now (rows .entry)) i) (table (now (s .entry)) (now (cells .entry)) width records) (table (now (u .entry)) (now («u_cells» .entry)) «u_width» «u_records») ⌝ }
 {
-    let shape = row_cell(rows, m, 0);
-    if shape == 4 {
-        let t = Target {
-            k: column(rows, m, 3),
-            when: when_of(rows, m),
-            m: column(rows, m, 8),
-        };
-        return Break {
-            record: target_rule(
+    let rule = rule_at(rows, i);
+    match rule {
+        Rule::KeyOf { key, .. } => of_key(key_rule(s, cells, width, records, key)),
+        Rule::OneOf {
+            field,
+            first,
+            count,
+            ..
+        } => {
+            let asked = FieldRule::OneOf { first, count };
+            alone(field_rule(s, cells, width, records, field, asked, places, texts))
+        }
+        Rule::NullUnless { field, when, .. } => {
+            let asked = FieldRule::NullUnless { when };
+            alone(field_rule(s, cells, width, records, field, asked, places, texts))
+        }
+        Rule::GivenIf { field, when, .. } => {
+            let asked = FieldRule::GivenIf { when, wanted: true };
+            alone(field_rule(s, cells, width, records, field, asked, places, texts))
+        }
+        Rule::GivenUnless { field, when, .. } => {
+            let asked = FieldRule::GivenIf {
+                when,
+                wanted: false,
+            };
+            alone(field_rule(s, cells, width, records, field, asked, places, texts))
+        }
+        Rule::NoneBelow { from, to, .. } => alone(none_below(s, cells, width, records, from, to)),
+        Rule::SomeAbove { from, to, .. } => alone(some_above(s, cells, width, records, from, to)),
+        Rule::Together { from, to, .. } => alone(together(cells, width, records, from, to)),
+        Rule::LevelRun { level, .. } => alone(level_rule(s, cells, width, records, level)),
+        Rule::ParentGiven {
+            parent,
+            level,
+            id,
+            ..
+        } => parent_break(s, cells, width, records, level, id, parent),
+        Rule::TargetIn {
+            field,
+            when,
+            id,
+            ..
+        } => {
+            let asked = Target {
+                k: field,
+                when,
+                m: id,
+            };
+            alone(target_rule(
                 s,
                 cells,
                 width,
                 records,
-                t,
+                asked,
                 u,
                 u_cells,
                 u_width,
                 u_records,
                 places,
                 texts,
-            ),
-            other: 0,
-        };
+            ))
+        }
+        Rule::ParentIs {
+            level,
+            id,
+            other_id,
+            other_type,
+            value,
+            ..
+        } => {
+            let word = part(texts, value_start(places, value), value_end(places, value));
+            parent_type_break(
+                s,
+                cells,
+                width,
+                records,
+                level,
+                id,
+                u,
+                u_cells,
+                u_width,
+                u_records,
+                other_id,
+                other_type,
+                word,
+            )
+        }
     }
-    if shape == 10 {
-        let v = column(rows, m, 8);
-        let word = part(texts, value_start(places, v), value_end(places, v));
-        return parent_type_break(
-            rows,
-            m,
-            s,
-            cells,
-            width,
-            records,
-            u,
-            u_cells,
-            u_width,
-            u_records,
-            word,
-        );
-    }
-    single_rule(rows, m, s, cells, width, records, places, texts)
 }
 
-// Whether mark m is judged, where its first file's mark is of kind `first` and its second's, if it
-// reads one, of kind `second`.
-pub fn is_judged(rows: &[u32], m: usize, first: u32, second: u32) -> bool
-    ensures { λ r. ⌜ r ≡ isJudged (now (rows .entry)) m first second ⌝ }
+// Whether a rule is judged, where the marks of its two files are of these kinds.
+pub fn is_judged(first: u32, second: u32) -> bool
+    ensures { λ r. ⌜ r ≡ isJudged first second ⌝ }
 {
-    if first != 0 {
-        return false;
+    if first == 0 {
+        return second == 0;
     }
-    if row_cell(rows, m, 2) == 0 {
-        return true;
-    }
-    second == 0
+    false
 }
 
 // The mark of a rule: kind 2 where it is not judged, else kind 1 at the breaking record, or kind 0.

@@ -5,34 +5,9 @@ use Prim.Native.String.{String}
 use mathlib.Core.Bool.{Bool, true, false}
 use mathlib.Core.List.{List, [], _∷_}
 use lib.ListN.{getD}
-use Rattle.table_fields.specs.Ascii.{codes}
-
-pub record Field : Type 0 where
-  pub name : List ℕ
-  pub type : ℕ
-  pub nullable : Bool
-
--- the primitive data types of section 2.3, numbered in its order
-abbrev pub boolean : ℕ
-boolean = 0
-
-abbrev pub date : ℕ
-date = 1
-
-abbrev pub decimal : ℕ
-decimal = 2
-
-abbrev pub integer : ℕ
-integer = 3
-
-abbrev pub string : ℕ
-string = 4
-
-abbrev pub stringID : ℕ
-stringID = 5
-
-abbrev pub text : ℕ
-text = 6
+use Rattle.table_rows.specs.Ascii.{codes}
+use Rattle.table_rows.specs.Rows.{Field}
+use Rattle.table_rows.specs.Types.{boolean, date, decimal, integer, string, stringID, text}
 
 -- the column "Nullable": No, Yes and Conditional, which counts as nullable
 abbrev pub required : Bool
@@ -306,3 +281,7 @@ tables =
 -- the fields of a file by its number; a number over 19 has none
 unfoldable pub fieldsOf : ℕ → List Field
 fieldsOf t = getD tables t []
+
+-- what FileType.txt holds: document 01, kind 22, "the 39 bytes"
+unfoldable pub fileType : List ℕ
+fileType = codes "IPMDAR_SCHEDULE_PERFORMANCE_DATASET/1.0"

@@ -1,4 +1,3 @@
-pub mod Ascii
 pub mod Fields
 pub mod Enumerations
 pub mod Flat

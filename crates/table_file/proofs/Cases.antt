@@ -8,21 +8,24 @@ use mathlib.Core.List.{List, [], _∷_, _++_, map}
 use borrow.Author.Tests.{lt-ltb}
 use lib.ListN.{length, replicate}
 use lib.Dec.{ltb, leb}
-use Rattle.json_bytes.specs.Reads.{within}
 use Rattle.table_file.proofs.Opens.{open-files}
-use Rattle.table_fields.specs.Ascii.{codes}
-use Rattle.table_fields.specs.Fields.{Field, fieldsOf}
+use Rattle.parts.specs.Files.{File, Left, Given, bytesOf}
+use Rattle.table_rows.specs.Ascii.{codes}
+use Rattle.table_fields.specs.Fields.{fieldsOf, fileType}
 use Rattle.table_file.specs.Table.{holds, fault, TableRead, tableRead}
-use Rattle.table_file.specs.File.{fileOf}
-use Rattle.table_file.proofs.FaultKinds.{cellsOf, fileKinds}
+use Rattle.table_file.specs.File.{Form, Fixed, Single, Records, Expected, fileOf}
+use Rattle.table_file.proofs.FaultKinds.{countOf, cellsOf, fileKinds}
 use Rattle.table_file.proofs.Many.{manyRecords, many-short, many-given}
 
 -- room for two records of Resources
 abbrev cellsBefore : List ℕ
 cellsBefore = 0 ∷ 0 ∷ 0 ∷ 0 ∷ 0 ∷ 0 ∷ 0 ∷ 0 ∷ 0 ∷ 0 ∷ 0 ∷ 0 ∷ 0 ∷ 0 ∷ 0 ∷ 0 ∷ []
 
+abbrev expected : Form → Bool → Expected
+expected form required = record { form = form; required = required }
+
 abbrev resources : String → TableRead
-resources file = fileOf 16 true (fieldsOf 16) (codes file) cellsBefore
+resources file = fileOf (expected (Records (fieldsOf 16)) false) (Given (codes file)) cellsBefore
 
 -- each with what it is to show
 abbrev files : List String
@@ -55,33 +58,32 @@ unfolding open-files
 records = refl
 
 -- a singleton is an object
-pub singletons : map (λ file. fileOf 3 true (fieldsOf 16) (codes file) cellsBefore .read) ("{}" ∷ "[]" ∷ "null " ∷ [])
+pub singletons : map (λ file. fileOf (expected (Single (fieldsOf 16)) false) (Given (codes file)) cellsBefore .read) ("{}" ∷ "[]" ∷ "null " ∷ [])
     ≡ (fault 19 1 ∷ fault 12 0 ∷ fault 12 0 ∷ [])
 unfolding open-files
 singletons = refl
 
--- 21: of the omitted files 0, 1 and 3 alone
-pub omissions : map (λ file. fileOf file false [] [] [] .read) (0 ∷ 1 ∷ 2 ∷ 3 ∷ 4 ∷ 19 ∷ [])
-    ≡ (fault 21 0 ∷ fault 21 0 ∷ holds 0 ∷ fault 21 0 ∷ holds 0 ∷ holds 0 ∷ [])
+-- 21: of the omitted files the required ones alone
+pub omissions : map (λ required. fileOf (expected (Records []) required) Left [] .read) (true ∷ false ∷ []) ≡ (fault 21 0 ∷ holds 0 ∷ [])
 unfolding open-files
 omissions = refl
 
--- 22: file 0 is its 39 bytes, and neither fewer nor more
-pub types : map (λ file. fileOf 0 true [] (codes file) [] .read) ("IPMDAR_SCHEDULE_PERFORMANCE_DATASET/1.0" ∷ "IPMDAR_SCHEDULE_PERFORMANCE_DATASET/1.0 " ∷ "IPMDAR_SCHEDULE_PERFORMANCE_DATASET/1." ∷ "" ∷ [])
+-- 22: a fixed text is exactly its bytes, and neither fewer nor more
+pub types : map (λ file. fileOf (expected (Fixed fileType) true) (Given (codes file)) [] .read) ("IPMDAR_SCHEDULE_PERFORMANCE_DATASET/1.0" ∷ "IPMDAR_SCHEDULE_PERFORMANCE_DATASET/1.0 " ∷ "IPMDAR_SCHEDULE_PERFORMANCE_DATASET/1." ∷ "" ∷ [])
     ≡ (holds 0 ∷ fault 22 0 ∷ fault 22 0 ∷ fault 22 0 ∷ [])
 unfolding open-files
 types = refl
 
 -- ---- Each kind of a file's mark is given
 -- a file's kind, where it meets what `file-kinds` asks for; else 99, which is none
-abbrev kindOf : ℕ → Bool → List Field → List ℕ → List ℕ → ℕ
-kindOf file present fields s cells =
-    cond (ltb (length s) (2 ^ 32) && (leb (length fields) 64 && leb (cellsOf (within 1 3 file) fields) (length cells)))
-    (fileOf file present fields s cells .read .kind) 99
+abbrev kindOf : Form → File → List ℕ → ℕ
+kindOf form f cells =
+    cond (ltb (length (bytesOf f)) (2 ^ 32) && (leb (countOf form) 64 && leb (cellsOf form) (length cells)))
+    (fileOf (expected form true) f cells .read .kind) 99
 
 -- a singleton with the fields of a table
 abbrev single : ℕ → List ℕ → ℕ
-single table s = kindOf 3 true (fieldsOf table) s (replicate 64 0)
+single table s = kindOf (Single (fieldsOf table)) (Given s) (replicate 64 0)
 
 -- the kinds in order; 20 takes 4,097 records, and is shown apart
 abbrev kindsWith : ℕ → List ℕ
@@ -97,8 +99,8 @@ kindsWith twenty =
     single 7 (codes "{\"Ordinal\":1e15") ∷  -- too large for an Integer
     single 6 (codes "{}") ∷  -- no field at all
     twenty ∷
-    kindOf 0 false [] [] [] ∷  -- omitted
-    kindOf 0 true [] [] [] ∷  -- not its 39 bytes
+    kindOf (Fixed fileType) Left [] ∷  -- omitted
+    kindOf (Fixed fileType) (Given []) [] ∷  -- not its 39 bytes
     single 6 (codes "{\"Comments\":\"\\u007F\"") ∷  -- a barred control
     single 6 (codes "{\"Name\":\" \"") ∷  -- a space at the start
     single 6 (codes "{\"ID\":\"\\u00E9\"") ∷  -- outside the ID set
@@ -110,9 +112,9 @@ with-twenty : kindsWith 20 ≡ fileKinds
 unfolding open-files
 with-twenty = refl
 
-many-is : kindOf 4 true [] manyRecords [] ≡ 20
-unfolding within
-many-is = rw (lt-ltb (length manyRecords) (2 ^ 32) many-short) many-given
+many-is : kindOf (Records []) (Given manyRecords) [] ≡ 20
+unfolding bytesOf
+many-is = rw (lt-ltb (length manyRecords) (2 ^ 32) many-short) (many-given true)
 
-pub each-given : kindsWith (kindOf 4 true [] manyRecords []) ≡ fileKinds
+pub each-given : kindsWith (kindOf (Records []) (Given manyRecords) []) ≡ fileKinds
 each-given = ap kindsWith many-is ∙ with-twenty

@@ -15,10 +15,8 @@ use Rattle.json_bytes.specs.declared.Reading.{Reading}
 use Rattle.json_bytes.specs.declared.Reading.the-variants.{Whole, Fault}
 use Rattle.json_bytes.proofs.Laws.{by-test, either}
 use Rattle.json_bytes.proofs.Bounds.{Within, spaces-within}
-use Rattle.table_fields.specs.Fields.{Field}
-use Rattle.table_value.specs.Value.{valueAt, notObjectOf, notObjectAt}
-use Rattle.table_value.specs.declared.ValueRead.{ValueRead}
-use Rattle.table_value.specs.declared.ValueRead.the-variants.{Held, Null, Bad}
+use Rattle.table_rows.specs.Rows.{Field}
+use Rattle.table_value.specs.Value.{opens, tokenAt, notObjectOf, notObjectAt}
 use Rattle.table_name.specs.Name.{firstIn, nextAfter}
 use Rattle.table_name.specs.declared.Next.{Next}
 use Rattle.table_name.specs.declared.Next.the-variants.{More, Ends, Neither}
@@ -52,12 +50,11 @@ below-all r (Fault kind place) l = tt
 -- where no object stands nothing is read whole
 below-other : (s : List ℕ) (at r : ℕ) → Below r (notObjectAt s at)
 unfolding notObjectAt notObjectOf
-below-other s at r = go (valueAt s at 7)
+below-other s at r = either (Below r) (opens (byteAt s at)) _ _ tt (go (tokenAt s at))
   where
-    go : (v : ValueRead) → Below r (notObjectOf at v)
-    go (Held end) = tt
-    go (Null end) = tt
-    go (Bad kind place) = either (Below r) (eqb kind 15) _ _ tt tt
+    go : (t : Reading) → Below r (notObjectOf at t)
+    go (Whole end) = tt
+    go (Fault kind place) = tt
 
 -- ---- The ends, with cells as many as these: a fault, of which Q holds if it holds of what each element answers, or the end
 -- of the file; no more than `most` records are read.

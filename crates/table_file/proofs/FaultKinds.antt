@@ -8,12 +8,13 @@ use mathlib.Core.List.{List, [], _∷_, _++_, flatMap}
 use native.Mathlib.Nat.{mul-le-mul-right, add-mul}
 use native.Mathlib.Omega.{arith}
 use lib.ListN.{length}
-use lib.Dec.{ltb, eqb}
+use lib.Dec.{ltb}
 use Rattle.json_bytes.specs.Reads.{spacesEnd, within}
 use Rattle.json_bytes.proofs.Laws.{either}
 use Rattle.json_bytes.proofs.FaultKinds.{isIn, In, wider, in-left, in-right, below, inOrder, Faults, of-reading}
+use Rattle.parts.specs.Files.{File, Left, Given, bytesOf}
 use Rattle.json_same.specs.Same.{sameList}
-use Rattle.table_fields.specs.Fields.{Field}
+use Rattle.table_rows.specs.Rows.{Field}
 use Rattle.table_value.specs.Value.{textType, notObjectAt}
 use Rattle.table_value.proofs.FaultKinds.{otherKinds, not-object-kinds}
 use Rattle.table_record.specs.Record.{hasRoom, recordAt}
@@ -21,7 +22,7 @@ use Rattle.table_record.proofs.FaultKinds.{recordKinds, record-kinds}
 use Rattle.table_record.proofs.Laws.{room-is}
 use Rattle.table_file.specs.declared.FileRead.{FileRead}
 use Rattle.table_file.specs.Table.{TableRead, endOfFile, tableOf}
-use Rattle.table_file.specs.File.{fileType, demanded, omitted, typeFile, fileOf}
+use Rattle.table_file.specs.File.{Form, Fixed, Single, Records, Expected, omitted, fixedRead, readAs, fileOf}
 use Rattle.table_file.proofs.Elements.{table-holds}
 
 -- ---- a table: its records, what stands in the place of one, one too many, and what stands around them
@@ -36,15 +37,18 @@ end-kinds : (s : List ℕ) (at records : ℕ) → Marked (endOfFile s at records
 unfolding endOfFile
 end-kinds s at records = either Marked (ltb (spacesEnd s at) (length s)) _ _ refl refl
 
--- the cells of the records that a file may have: one in a singleton, 4,096 in a table
-abbrev pub cellsOf : Bool → List Field → ℕ
-cellsOf single fields = cond single 1 4096 * (2 * length fields)
+-- what so many records ask for
+pub record Room (records : ℕ) (fields : List Field) (s cells : List ℕ) : Type 0 where
+  pub small : length s < 2 ^ 32
+  pub few : length fields ≤ 64
+  pub room : records * (2 * length fields) ≤ length cells
 
-module _ (fields : List Field) (s : List ℕ) (small : length s < 2 ^ 32) (few : length fields ≤ 64) (single : Bool) (cells : List ℕ) (room : cellsOf single fields ≤ length cells) where
+-- a singleton has one record, any other table 4,096 at most
+module _ (fields : List Field) (s cells : List ℕ) (single : Bool) (all : Room (cond single 1 4096) fields s cells) where
   room-at : (now : List ℕ) (r : ℕ) → length now ≡ length cells → r < cond single 1 4096 → hasRoom s now (r * (2 * length fields)) (length fields) ≡ true
   room-at now r e l =
-      room-is s now (r * (2 * length fields)) (length fields) small few
-      (omega (arith, room, mul-le-mul-right {m = r + 1} {n = cond single 1 4096} (2 * length fields) (omega arith), add-mul r 1 (2 * length fields)))
+      room-is s now (r * (2 * length fields)) (length fields) (all .small) (all .few)
+      (omega (arith, all .room, mul-le-mul-right {m = r + 1} {n = cond single 1 4096} (2 * length fields) (omega arith), add-mul r 1 (2 * length fields)))
 
   pub table-kinds : In tableKinds (tableOf single fields s cells .read .kind)
   table-kinds =
@@ -78,20 +82,50 @@ of-table = wider tableKinds fileKinds refl
 abbrev OfFile : FileRead → Type 0
 OfFile f = In fileKinds (f .kind)
 
-module _ (file : ℕ) (present : Bool) (fields : List Field) (s cells : List ℕ) (small : length s < 2 ^ 32) (few : length fields ≤ 64) (room : cellsOf (within 1 3 file) fields ≤ length cells) where
-  pub file-kinds : In fileKinds (fileOf file present fields s cells .read .kind)
-  unfolding fileOf typeFile omitted
-  file-kinds =
-      either (λ (f : TableRead). OfFile (f .read)) present _ _
-      (either (λ (f : TableRead). OfFile (f .read)) (eqb file 0) _ _ (either OfFile (sameList s fileType) _ _ refl refl)
-      (of-table (tableOf (within 1 3 file) fields s cells .read .kind) (table-kinds fields s small few (within 1 3 file) cells room)))
-      (either OfFile (demanded file) _ _ refl refl)
+-- by its form: a fixed text asks for nothing
+abbrev pub FormRoom : Form → List ℕ → List ℕ → Type 0
+FormRoom (Fixed text) s cells = Unit {0}
+FormRoom (Single fields) s cells = Room 1 fields s cells
+FormRoom (Records fields) s cells = Room 4096 fields s cells
 
-  pub never : (kind : ℕ) → isIn fileKinds kind ≡ false → fileOf file present fields s cells .read .kind ≡ kind → ⊥
-  never kind none e = false≢true (sym none ∙ rw e at file-kinds)
+form-kinds : (form : Form) (s cells : List ℕ) → FormRoom form s cells → OfFile (readAs form s cells .read)
+unfolding readAs fixedRead
+form-kinds (Fixed text) s cells room = either OfFile (sameList s text) _ _ refl refl
+form-kinds (Single fields) s cells room =
+    of-table (tableOf true fields s cells .read .kind) (table-kinds fields s cells true room)
+form-kinds (Records fields) s cells room =
+    of-table (tableOf false fields s cells .read .kind) (table-kinds fields s cells false room)
 
-  pub never-16 : fileOf file present fields s cells .read .kind ≡ 16 → ⊥
+pub file-kinds : (e : Expected) (f : File) (cells : List ℕ) → FormRoom (e .form) (bytesOf f) cells → In fileKinds (fileOf e f cells .read .kind)
+unfolding fileOf omitted bytesOf
+file-kinds e Left cells room = either OfFile (e .required) _ _ refl refl
+file-kinds e (Given s) cells room = form-kinds (e .form) s cells room
+
+module _ (e : Expected) (f : File) (cells : List ℕ) (room : FormRoom (e .form) (bytesOf f) cells) where
+  pub never : (kind : ℕ) → isIn fileKinds kind ≡ false → fileOf e f cells .read .kind ≡ kind → ⊥
+  never kind none is = false≢true (sym none ∙ rw is at (file-kinds e f cells room))
+
+  pub never-16 : fileOf e f cells .read .kind ≡ 16 → ⊥
   never-16 = never 16 refl
 
-  pub never-99 : fileOf file present fields s cells .read .kind ≡ 99 → ⊥
+  pub never-99 : fileOf e f cells .read .kind ≡ 99 → ⊥
   never-99 = never 99 refl
+
+-- ---- where a file's cells are those that its form asks for, and no more
+abbrev pub countOf : Form → ℕ
+countOf (Fixed text) = 0
+countOf (Single fields) = length fields
+countOf (Records fields) = length fields
+
+abbrev pub cellsOf : Form → ℕ
+cellsOf (Fixed text) = 0
+cellsOf (Single fields) = 1 * (2 * length fields)
+cellsOf (Records fields) = 4096 * (2 * length fields)
+
+pub own-room : (form : Form) (s cells : List ℕ) → length s < 2 ^ 32 → countOf form ≤ 64 → length cells ≡ cellsOf form → FormRoom form s cells
+own-room (Fixed text) s cells small few same = tt
+own-room (Single fields) s cells small few same = record { small = small; few = few; room = omega arith }
+own-room (Records fields) s cells small few same = record { small = small; few = few; room = omega arith }
+
+pub own-kinds : (e : Expected) (f : File) (cells : List ℕ) → length (bytesOf f) < 2 ^ 32 → countOf (e .form) ≤ 64 → length cells ≡ cellsOf (e .form) → In fileKinds (fileOf e f cells .read .kind)
+own-kinds e f cells small few same = file-kinds e f cells (own-room (e .form) (bytesOf f) cells small few same)

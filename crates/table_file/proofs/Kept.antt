@@ -3,18 +3,19 @@
 -- Assumes nothing.
 use Prim.Native.Nat.{ℕ, _≤_}
 use mathlib.Core.Path.{_≡_, refl}
-use mathlib.Core.Bool.{Bool}
+use mathlib.Core.Bool.{Bool, true, false}
 use mathlib.Core.List.{List}
 use native.Mathlib.Omega.{arith}
 use lib.ListN.{length}
-use lib.Dec.{ltb, eqb}
-use Rattle.json_bytes.specs.Reads.{spacesEnd, within}
+use lib.Dec.{ltb}
+use Rattle.json_bytes.specs.Reads.{spacesEnd}
 use Rattle.json_bytes.proofs.Laws.{by-test, either}
+use Rattle.parts.specs.Files.{File, Left, Given}
 use Rattle.json_same.specs.Same.{sameList}
-use Rattle.table_fields.specs.Fields.{Field}
+use Rattle.table_rows.specs.Rows.{Field}
 use Rattle.table_file.specs.declared.FileRead.{FileRead}
-use Rattle.table_file.specs.Table.{holds, fault, TableRead, endOfFile, tableOf}
-use Rattle.table_file.specs.File.{fileType, demanded, omitted, typeFile, fileOf}
+use Rattle.table_file.specs.Table.{holds, fault, TableRead, tableRead, endOfFile, tableOf}
+use Rattle.table_file.specs.File.{Form, Fixed, Single, Records, Expected, omitted, fixedRead, readAs, fileOf}
 use Rattle.table_file.proofs.Elements.{table-holds}
 
 -- ---- a mark
@@ -52,27 +53,30 @@ kept-table fields s single cells =
     single (either (λ (n : ℕ). n ≤ 4096) single 1 4096 (omega arith) (omega arith))
 
 -- ---- a file
-module _ (file : ℕ) (present : Bool) (fields : List Field) (s cells : List ℕ) where
-  kept-file : Kept cells (fileOf file present fields s cells)
-  unfolding fileOf typeFile omitted
-  kept-file =
-      by-test (Kept cells) present _ _
-      (λ _. by-test (Kept cells) (eqb file 0) _ _
-      (λ _. record {
-        same = refl;
-        counted = by-test Counted (sameList s fileType) _ _ (λ _. counted-holds 0 (omega arith)) (λ _. counted-fault 22 0);
-      })
-      (λ _. kept-table fields s (within 1 3 file) cells))
-      (λ _. record {
-        same = refl;
-        counted = by-test Counted (demanded file) _ _ (λ _. counted-fault 21 0) (λ _. counted-holds 0 (omega arith));
-      })
+module _ (cells : List ℕ) where
+  kept-omitted : (required : Bool) → Kept cells (tableRead cells (omitted required))
+  unfolding omitted
+  kept-omitted required =
+      record { same = refl; counted = by-test Counted required _ _ (λ _. counted-fault 21 0) (λ _. counted-holds 0 (omega arith)) }
 
-  pub file-length : length (fileOf file present fields s cells .cells) ≡ length cells
-  file-length = kept-file .same
+  kept-form : (form : Form) (s : List ℕ) → Kept cells (readAs form s cells)
+  unfolding readAs fixedRead
+  kept-form (Fixed text) s =
+      record { same = refl; counted = by-test Counted (sameList s text) _ _ (λ _. counted-holds 0 (omega arith)) (λ _. counted-fault 22 0) }
+  kept-form (Single fields) s = kept-table fields s true cells
+  kept-form (Records fields) s = kept-table fields s false cells
 
-  pub file-records : fileOf file present fields s cells .read .records ≤ 4096
-  file-records = kept-file .counted .few
+  kept-file : (e : Expected) (f : File) → Kept cells (fileOf e f cells)
+  unfolding fileOf
+  kept-file e Left = kept-omitted (e .required)
+  kept-file e (Given s) = kept-form (e .form) s
 
-  pub fault-records : (fileOf file present fields s cells .read .kind ≡ 0 → ⊥) → fileOf file present fields s cells .read .records ≡ 0
-  fault-records = kept-file .counted .none
+module _ (e : Expected) (f : File) (cells : List ℕ) where
+  pub file-length : length (fileOf e f cells .cells) ≡ length cells
+  file-length = kept-file cells e f .same
+
+  pub file-records : fileOf e f cells .read .records ≤ 4096
+  file-records = kept-file cells e f .counted .few
+
+  pub fault-records : (fileOf e f cells .read .kind ≡ 0 → ⊥) → fileOf e f cells .read .records ≡ 0
+  fault-records = kept-file cells e f .counted .none

@@ -11,16 +11,16 @@ use borrow.Author.Tests.{eq-eqb, ne-eqb, lt-ltb, le-ltb, lt-leb}
 use lib.ListN.{length, getD, drop, drop-of-length-le}
 use lib.Seq.{drop-cons}
 use lib.Dec.{ltb, eqb}
-use Rattle.json_bytes.specs.Reads.{byteAt, spacesEnd, within}
+use Rattle.json_bytes.specs.Reads.{byteAt, spacesEnd}
 use Rattle.json_bytes.specs.declared.Reading.{Reading}
 use Rattle.json_bytes.specs.declared.Reading.the-variants.{Whole, Fault}
 use Rattle.json_bytes.proofs.Laws.{by-test}
 use Rattle.json_bytes.proofs.Bounds.{Within}
+use Rattle.parts.specs.Files.{newFile}
 use Rattle.json_same.specs.Same.{sameList}
 use Rattle.json_same.proofs.Laws.{same-equal}
-use Rattle.table_fields.specs.Fields.{Field}
-use Rattle.table_fields.specs.Flat.{fieldsFrom}
-use Rattle.table_fields.proofs.Laws.{fields-length}
+use Rattle.table_rows.specs.Rows.{Field, fieldsFrom}
+use Rattle.table_rows.proofs.Laws.{fields-length}
 use Rattle.table_value.specs.Value.{notObjectAt}
 use Rattle.table_value.proofs.Bounds.{not-object-in}
 use Rattle.table_name.specs.Name.{firstIn, nextAfter}
@@ -44,7 +44,7 @@ use Rattle.table_file.specs.Table.{
   arrayAt,
   tableOf,
 }
-use Rattle.table_file.specs.File.{omitted, typeFile, fileOf}
+use Rattle.table_file.specs.File.{omitted, fixedRead, readAs, fileOf, formFrom, expectedFrom}
 
 -- ---- a singleton
 module _ (fields : List Field) (s cells : List ℕ) (at b : ℕ) (isByte : b ≡ byteAt s at) (r : Reading) (x : FileRead) (isRead : x ≡ singleRead s r) where
@@ -231,7 +231,7 @@ module _ (fields : List Field) (s cells : List ℕ) (at : ℕ) (isStart : at ≡
   unfolding tableOf
   table-array e isArray = rw (e, ← isStart) isArray
 
--- ---- the bytes of file 0
+-- ---- two lists of bytes
 module _ (a b : List ℕ) where
   pub same-longer : (length a ≡ length b → ⊥) → sameList a b ≡ false
   same-longer e = go (sameList a b) refl
@@ -254,16 +254,20 @@ module _ (a b : List ℕ) where
     same-ends l m = rw (drop-of-length-le a l, drop-of-length-le b m)
 
 -- ---- a file
-module _ (fields : List Field) (s cells : List ℕ) (file : ℕ) (present : Bool) where
-  pub file-omitted : present ≡ false → (x : FileRead) → x ≡ omitted file → tableRead cells x ≡ fileOf file present fields s cells
-  unfolding fileOf
+module _ (form : ℕ) (required : Bool) (text : List ℕ) (fields : List Field) (s cells : List ℕ) (present : Bool) where
+  pub file-omitted : present ≡ false → (x : FileRead) → x ≡ omitted required → tableRead cells x ≡ fileOf (expectedFrom form required text fields) (newFile present s) cells
+  unfolding fileOf newFile
   file-omitted e x isRead = rw (e, isRead)
 
   module _ (e : present ≡ true) where
-    pub file-type : file ≡ 0 → (x : FileRead) → x ≡ typeFile s → tableRead cells x ≡ fileOf file present fields s cells
-    unfolding fileOf
-    file-type z x isRead = rw (e, eq-eqb file 0 z, isRead)
+    pub file-array : form ≡ 0 → (then : List ℕ) (x : FileRead) → x ≡ tableOf false fields s cells .read → then ≡ tableOf false fields s cells .cells → tableRead then x ≡ fileOf (expectedFrom form required text fields) (newFile present s) cells
+    unfolding fileOf newFile formFrom readAs
+    file-array z then x isRead isThen = rw (e, eq-eqb form 0 z, isRead, isThen)
 
-    pub file-table : (file ≡ 0 → ⊥) → (single : Bool) → single ≡ within 1 3 file → (then : List ℕ) (x : FileRead) → x ≡ tableOf single fields s cells .read → then ≡ tableOf single fields s cells .cells → tableRead then x ≡ fileOf file present fields s cells
-    unfolding fileOf
-    file-table z single isSingle then x isRead isThen = rw (e, ne-eqb file 0 z, ← isSingle, isRead, isThen)
+    pub file-object : (form ≡ 0 → ⊥) → form ≡ 1 → (then : List ℕ) (x : FileRead) → x ≡ tableOf true fields s cells .read → then ≡ tableOf true fields s cells .cells → tableRead then x ≡ fileOf (expectedFrom form required text fields) (newFile present s) cells
+    unfolding fileOf newFile formFrom readAs
+    file-object n z then x isRead isThen = rw (e, ne-eqb form 0 n, eq-eqb form 1 z, isRead, isThen)
+
+    pub file-text : (form ≡ 0 → ⊥) → (form ≡ 1 → ⊥) → (x : FileRead) → x ≡ fixedRead text s → tableRead cells x ≡ fileOf (expectedFrom form required text fields) (newFile present s) cells
+    unfolding fileOf newFile formFrom readAs
+    file-text n m x isRead = rw (e, ne-eqb form 0 n, ne-eqb form 1 m, isRead)

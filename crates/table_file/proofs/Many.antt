@@ -2,7 +2,7 @@
 -- Assumes nothing.
 use Prim.Native.Nat.{ℕ, zero, suc, _+_, _*_, _^_, _<_}
 use mathlib.Core.Path.{_≡_, refl, sym, ap, _∙_}
-use mathlib.Core.Bool.{true, false}
+use mathlib.Core.Bool.{Bool, false}
 use mathlib.Core.List.{List, [], _∷_}
 use native.Mathlib.Nat.{add-zero, mul-zero}
 use native.Mathlib.Omega.{arith}
@@ -10,15 +10,16 @@ use borrow.Author.Tests.{lt-ltb}
 use lib.ListN.{length, getD, drop}
 use lib.Dec.{lit<}
 use lib.Seq.{getD-drop, drop-drop}
-use Rattle.json_bytes.specs.Reads.{byteAt, within, isSpace, spacesEnd}
+use Rattle.json_bytes.specs.Reads.{byteAt, isSpace, spacesEnd}
 use Rattle.json_bytes.specs.declared.Reading.the-variants.{Whole}
 use Rattle.json_bytes.proofs.Laws.{inside, run-stops}
+use Rattle.parts.specs.Files.{Given}
 use Rattle.table_name.specs.Name.{firstIn, nextAfter}
 use Rattle.table_name.specs.declared.Next.the-variants.{More, Ends}
 use Rattle.table_record.specs.Record.{filled, isMissing, closedAt, membersOf, cleared}
 use Rattle.table_record.proofs.Laws.{room-is, record-room}
 use Rattle.table_file.specs.Table.{elementAt, elementsFrom, elementsOf, arrayAt, tableOf}
-use Rattle.table_file.specs.File.{fileOf}
+use Rattle.table_file.specs.File.{Records, readAs, fileOf}
 
 -- n records `{}`, each with a comma behind it, and the brace of one more
 unfoldable pub empties : ℕ → List ℕ
@@ -135,6 +136,6 @@ many-length = omega (arith, empties-length 4096)
 pub many-short : length manyRecords < 2 ^ 32
 many-short = omega (arith, many-length)
 
-pub many-given : fileOf 4 true [] manyRecords [] .read .kind ≡ 20
-unfolding fileOf within manyRecords
-many-given = table-is manyRecords many-short (omega (arith, many-length)) refl
+pub many-given : (required : Bool) → fileOf (record { form = Records []; required = required }) (Given manyRecords) [] .read .kind ≡ 20
+unfolding fileOf readAs manyRecords
+many-given required = table-is manyRecords many-short (omega (arith, many-length)) refl

@@ -8,7 +8,7 @@ use lib.Dec.{ltb, eqb}
 use Rattle.json_bytes.specs.Reads.{byteAt, spacesEnd}
 use Rattle.json_bytes.specs.declared.Reading.{Reading}
 use Rattle.json_bytes.specs.declared.Reading.the-variants.{Whole, Fault}
-use Rattle.table_fields.specs.Fields.{Field}
+use Rattle.table_rows.specs.Rows.{Field}
 use Rattle.table_value.specs.Value.{notObjectAt}
 use Rattle.table_name.specs.Name.{firstIn, nextAfter}
 use Rattle.table_name.specs.declared.Next.{Next}

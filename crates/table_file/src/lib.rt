@@ -3,12 +3,12 @@
 ghost use mathlib.Core.Path.{_≡_};
 ghost use Prim.Native.Nat.{_≤_, _<_};
 ghost use lib.ListN.{length};
-ghost use Rattle.json_bytes.specs.Reads.{within};
+ghost use Rattle.parts.specs.Files.{newFile};
 ghost use Rattle.json_same.specs.Same.{sameList};
-ghost use Rattle.table_fields.specs.Flat.{fieldsFrom};
+ghost use Rattle.table_rows.specs.Rows.{fieldsFrom};
 ghost use Rattle.table_record.specs.Record.{filled};
 ghost use Rattle.table_file.specs.Table.{tableRead, endOfFile, singleRead, singleAt, elementAt, elementsFrom, arrayAt, tableOf};
-ghost use Rattle.table_file.specs.File.{demanded, omitted, typeFile, fileOf};
+ghost use Rattle.table_file.specs.File.{omitted, fixedRead, fileOf, expectedFrom};
 use json_bytes::Reading;
 use json_bytes::byte_at;
 use json_bytes::skip_spaces;
@@ -17,6 +17,13 @@ use table_name::first_in;
 use table_name::next_after;
 use table_record::read_record;
 use table_value::not_object_at;
+
+// The forms of a file. Any other number is that of a fixed text too.
+pub const RECORDS: u32 = 0;
+
+pub const SINGLE: u32 = 1;
+
+pub const FIXED: u32 = 2;
 
 // The mark of a file, kind 0 and place 0 where it holds, and how many records it then has.
 pub struct FileRead {
@@ -209,11 +216,11 @@ fn same_bytes(a: &[u8], b: &[u8]) -> bool
     true
 }
 
-// File 0: 22 where it is not exactly its 39 bytes.
-fn type_file(s: &[u8]) -> FileRead
-    ensures { λ r. ⌜ r ≡ typeFile (now (s .entry)) ⌝ }
+// A file that is to be a fixed text: 22 where it is not exactly that.
+fn fixed_file(s: &[u8], text: &[u8]) -> FileRead
+    ensures { λ r. ⌜ r ≡ fixedRead (now (text .entry)) (now (s .entry)) ⌝ }
 {
-    if same_bytes(s, b"IPMDAR_SCHEDULE_PERFORMANCE_DATASET/1.0") {
+    if same_bytes(s, text) {
         return FileRead {
             kind: 0,
             place: 0,
@@ -227,11 +234,11 @@ fn type_file(s: &[u8]) -> FileRead
     }
 }
 
-// An omitted file: 21 for files 0, 1 and 3; any other holds and has no records.
-fn omitted_file(file: usize) -> FileRead
-    ensures { λ r. ⌜ r ≡ omitted file ⌝ }
+// An omitted file: 21 where it is required; any other holds and has no records.
+fn omitted_file(required: bool) -> FileRead
+    ensures { λ r. ⌜ r ≡ omitted required ⌝ }
 {
-    if is_demanded(file) {
+    if required {
         return FileRead {
             kind: 21,
             place: 0,
@@ -245,46 +252,30 @@ fn omitted_file(file: usize) -> FileRead
     }
 }
 
-fn is_demanded(file: usize) -> bool
-    ensures { λ r. ⌜ r ≡ demanded file ⌝ }
-{
-    if file == 0 {
-        return true;
-    }
-    if file == 1 {
-        return true;
-    }
-    file == 3
-}
-
-fn is_single(file: usize) -> bool
-    ensures { λ r. ⌜ r ≡ within 1 3 file ⌝ }
-{
-    if file < 1 {
-        return false;
-    }
-    file <= 3
-}
-
-// The file of a number, with the `count` fields that rows and names describe: its mark, and its
-// cells.
+// A file of a form, with the `count` fields that rows and names describe, or with the text that it is
+// to be: its mark, and its cells.
 pub fn read_file(
-    file: usize,
+    form: u32,
+    required: bool,
     present: bool,
     s: &[u8],
+    text: &[u8],
     rows: &[u32],
     names: &[u8],
     count: usize,
     cells: &mut [u32],
 ) -> FileRead
-    ensures { λ r. ⌜ r ≡ fileOf file present (fieldsFrom (now (rows .entry)) (now (names .entry)) count 0) (now (s .entry)) (now (cells .entry)) .read ⌝ }
-    ensures { λ _. ⌜ now (cells .exit) ≡ fileOf file present (fieldsFrom (now (rows .entry)) (now (names .entry)) count 0) (now (s .entry)) (now (cells .entry)) .cells ⌝ }
+    ensures { λ r. ⌜ r ≡ fileOf (expectedFrom form required (now (text .entry)) (fieldsFrom (now (rows .entry)) (now (names .entry)) count 0)) (newFile present (now (s .entry))) (now (cells .entry)) .read ⌝ }
+    ensures { λ _. ⌜ now (cells .exit) ≡ fileOf (expectedFrom form required (now (text .entry)) (fieldsFrom (now (rows .entry)) (now (names .entry)) count 0)) (newFile present (now (s .entry))) (now (cells .entry)) .cells ⌝ }
 {
     if !present {
-        return omitted_file(file);
+        return omitted_file(required);
     }
-    if file == 0 {
-        return type_file(s);
+    if form == RECORDS {
+        return read_table(false, s, rows, names, count, cells);
     }
-    read_table(is_single(file), s, rows, names, count, cells)
+    if form == SINGLE {
+        return read_table(true, s, rows, names, count, cells);
+    }
+    fixed_file(s, text)
 }

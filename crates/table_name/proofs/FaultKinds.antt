@@ -12,7 +12,7 @@ use Rattle.json_bytes.proofs.FaultKinds.{In, wider, Faults, of-reading}
 use Rattle.json_chars.specs.Chars.{charsAt}
 use Rattle.json_text.specs.Text.{textAt}
 use Rattle.json_text.proofs.FaultKinds.{textKinds, text-kinds}
-use Rattle.table_fields.specs.Fields.{Field}
+use Rattle.table_rows.specs.Rows.{Field}
 use Rattle.table_name.specs.Name.{indexOf, namedAt, nameAt, colonAt}
 use Rattle.table_name.specs.declared.NameRead.{NameRead}
 use Rattle.table_name.specs.declared.NameRead.the-variants.{Known, Unknown}

@@ -23,22 +23,23 @@ use Rattle.json_text.specs.declared.TextType.the-variants.{Text}
 use Rattle.json_same.specs.Same.{sameAs, sameList, casedAs, isPlain}
 use Rattle.json_same.proofs.Walk.{plain-step}
 use Rattle.json_same.specs.declared.Case.the-variants.{Kept}
-use Rattle.table_fields.specs.Fields.{Field}
-use Rattle.table_fields.specs.Flat.{nameStart, nameEnd, partOf, nameAt as nameText, fieldAt, fieldsFrom}
-use Rattle.table_fields.proofs.Laws.{fields-length, part-is}
+use Rattle.table_rows.specs.Rows.{listed, Field, nameStart, nameEnd, nameAt as nameText, fieldAt, fieldsFrom}
+use Rattle.parts.specs.Part.{partOf}
+use Rattle.parts.proofs.Laws.{part-is}
+use Rattle.table_rows.proofs.Laws.{fields-length}
 use Rattle.table_name.specs.Name.{indexOf, namedAt, nameAt}
 use Rattle.table_name.specs.declared.NameRead.the-variants.{Known, Unknown}
 
 module _ (rows names : List ℕ) (count k : ℕ) where
   -- the fields from number k on: field k, and those behind it
   pub fields-next : k < count → fieldsFrom rows names (count - k) k ≡ fieldAt rows names k ∷ fieldsFrom rows names (count - (k + 1)) (k + 1)
-  unfolding fieldsFrom
+  unfolding fieldsFrom listed
   fields-next l =
       let e : count - k ≡ suc (count - (k + 1)) = omega arith in
       rw (e, add-one k)
 
   pub fields-end : count ≤ k → fieldsFrom rows names (count - k) k ≡ []
-  unfolding fieldsFrom
+  unfolding fieldsFrom listed
   fields-end l =
       let e : count - k ≡ 0 = omega arith in
       rw e

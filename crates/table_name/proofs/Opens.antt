@@ -3,9 +3,9 @@
 use mathlib.Core.Bool.{Bool, true}
 use Rattle.json_text.proofs.Opens.{open-text}
 use Rattle.json_same.proofs.Opens.{open-same}
-use Rattle.table_fields.proofs.Opens.{open-fields}
+use Rattle.table_rows.proofs.Opens.{open-table-rows}
 use Rattle.table_name.specs.Name.{indexOf, namedAt, nameAt, colonAt, firstIn, nextAfter}
 
 unfoldable pub open-names : Bool
-unfolding open-text open-same open-fields indexOf namedAt nameAt colonAt firstIn nextAfter
+unfolding open-text open-same open-table-rows indexOf namedAt nameAt colonAt firstIn nextAfter
 open-names = true

@@ -12,7 +12,7 @@ use Rattle.json_chars.specs.Chars.{charsAt}
 use Rattle.json_text.specs.Text.{textAt}
 use Rattle.json_same.specs.Same.{sameAs}
 use Rattle.json_same.specs.declared.Case.the-variants.{Kept}
-use Rattle.table_fields.specs.Fields.{Field}
+use Rattle.table_rows.specs.Rows.{Field}
 use Rattle.table_name.specs.declared.NameRead.{NameRead}
 use Rattle.table_name.specs.declared.NameRead.the-variants.{Known, Unknown}
 use Rattle.table_name.specs.declared.Next.{Next}

@@ -4,7 +4,8 @@ ghost use mathlib.Core.Path.{_≡_};
 ghost use Rattle.json_chars.specs.Chars.{charsAt};
 ghost use mathlib.Core.Bool.{true, false};
 ghost use Rattle.json_same.specs.Same.{sameAs};
-ghost use Rattle.table_fields.specs.Flat.{partOf, fieldsFrom};
+ghost use Rattle.parts.specs.Part.{partOf};
+ghost use Rattle.table_rows.specs.Rows.{fieldsFrom};
 ghost use Rattle.table_name.specs.Name.{indexOf, namedAt, nameAt, colonAt, firstIn, nextAfter};
 use json_bytes::Reading;
 use json_bytes::byte_at;
@@ -14,9 +15,9 @@ use json_same::is_plain;
 use json_same::text_is;
 use json_text::TextType;
 use json_text::read_text;
-use table_fields::name_end;
-use table_fields::name_start;
-use table_fields::part;
+use parts::part;
+use table_rows::name_end;
+use table_rows::name_start;
 
 // A field's name: the field's place among those of its table and the place behind the name, or a
 // fault.

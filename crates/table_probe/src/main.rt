@@ -11,12 +11,16 @@ use libc::STDIN_FILENO;
 use libc::STDOUT_FILENO;
 use program_io::fill;
 use program_io::put_long;
-use table_fields::field_count;
 use table_fields::field_names;
 use table_fields::field_rows;
-use table_fields::first_field;
-use table_fields::rows_after;
+use table_fields::file_type;
+use table_file::FIXED;
+use table_file::RECORDS;
+use table_file::SINGLE;
 use table_file::read_file;
+use table_rows::field_count;
+use table_rows::first_field;
+use table_rows::rows_after;
 
 // A file's mark, the number of its records, and the number of its table's fields.
 struct Answer {
@@ -41,6 +45,27 @@ enum Next {
     End,
 }
 
+// FileType.txt is a fixed text, files 1 to 3 hold an object each, and the others records.
+fn form_of(file: usize) -> u32 {
+    if file == 0 {
+        return FIXED;
+    }
+    if file <= 3 {
+        return SINGLE;
+    }
+    RECORDS
+}
+
+fn is_required(file: usize) -> bool {
+    if file == 0 {
+        return true;
+    }
+    if file == 1 {
+        return true;
+    }
+    file == 3
+}
+
 fn answer_of(
     file: usize,
     present: bool,
@@ -49,9 +74,21 @@ fn answer_of(
     names: &[u8],
     cells: &mut [u32],
 ) -> Answer {
-    let own = rows_after(rows, first_field(file));
-    let count = field_count(file);
-    let read = read_file(file, present, s, own, names, count, cells);
+    let own = rows_after(rows, first_field(rows, file));
+    let count = field_count(rows, file);
+    let form = form_of(file);
+    let text = file_type();
+    let read = read_file(
+        form,
+        is_required(file),
+        present,
+        s,
+        &text,
+        own,
+        names,
+        count,
+        cells,
+    );
     Answer {
         kind: read.kind as u64,
         place: read.place as u64,

@@ -18,7 +18,7 @@ use Rattle.json_bytes.proofs.Bounds.{Within, spaces-within}
 use Rattle.json_chars.specs.Chars.{charsAt}
 use Rattle.json_text.specs.Text.{textAt}
 use Rattle.json_text.proofs.Bounds.{text-within, earlier}
-use Rattle.table_fields.specs.Fields.{Field}
+use Rattle.table_rows.specs.Rows.{Field}
 use Rattle.table_name.specs.Name.{indexOf, namedAt, nameAt, colonAt, firstIn, nextAfter}
 use Rattle.table_name.specs.declared.NameRead.{NameRead}
 use Rattle.table_name.specs.declared.NameRead.the-variants.{Known, Unknown}

@@ -6,7 +6,7 @@ use mathlib.Core.Path.{_≡_, refl}
 use mathlib.Core.List.{List, [], _∷_, map}
 use Rattle.table_record.proofs.Opens.{open-records}
 use Rattle.json_bytes.specs.declared.Reading.the-variants.{Whole, Fault}
-use Rattle.table_fields.specs.Ascii.{codes}
+use Rattle.table_rows.specs.Ascii.{codes}
 use Rattle.table_fields.specs.Fields.{fieldsOf}
 use Rattle.table_record.specs.Record.{Filled, filled, recordAt}
 

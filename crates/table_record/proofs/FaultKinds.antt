@@ -9,8 +9,10 @@ use Rattle.json_bytes.specs.Reads.{within}
 use Rattle.json_bytes.specs.declared.Reading.the-variants.{Whole, Fault}
 use Rattle.json_bytes.proofs.Laws.{either}
 use Rattle.json_bytes.proofs.FaultKinds.{wider, in-right, below, inOrder, Faults, of-reading, kindOf}
-use Rattle.table_fields.specs.Ascii.{codes}
-use Rattle.table_fields.specs.Fields.{Field, field, date, integer, string, stringID, text, required, optional}
+use Rattle.table_rows.specs.Ascii.{codes}
+use Rattle.table_rows.specs.Types.{date, integer, string, stringID, text}
+use Rattle.table_rows.specs.Rows.{Field}
+use Rattle.table_fields.specs.Fields.{field, required, optional}
 use Rattle.table_value.specs.Value.{textType}
 use Rattle.table_value.specs.declared.ValueRead.{ValueRead}
 use Rattle.table_value.specs.declared.ValueRead.the-variants.{Held, Null, Bad}

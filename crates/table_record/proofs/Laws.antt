@@ -14,9 +14,8 @@ use Rattle.json_bytes.specs.declared.Reading.{Reading}
 use Rattle.json_bytes.specs.declared.Reading.the-variants.{Whole, Fault}
 use Rattle.json_bytes.proofs.Laws.{both-left, both-right}
 use Rattle.json_bytes.proofs.Bounds.{Within}
-use Rattle.table_fields.specs.Fields.{Field}
-use Rattle.table_fields.specs.Flat.{typeAt, nullableAt, fieldAt, fieldsFrom}
-use Rattle.table_fields.proofs.Laws.{fields-length, fields-at}
+use Rattle.table_rows.specs.Rows.{Field, typeAt, nullableAt, fieldAt, fieldsFrom}
+use Rattle.table_rows.proofs.Laws.{fields-length, fields-at}
 use Rattle.table_name.specs.Name.{nameAt, colonAt, firstIn, nextAfter}
 use Rattle.table_name.specs.declared.NameRead.{NameRead}
 use Rattle.table_name.specs.declared.NameRead.the-variants.{Known, Unknown}

@@ -8,7 +8,7 @@ use lib.ListN.{length, getD, set}
 use lib.Dec.{ltb, leb, eqb}
 use Rattle.json_bytes.specs.declared.Reading.{Reading}
 use Rattle.json_bytes.specs.declared.Reading.the-variants.{Whole, Fault}
-use Rattle.table_fields.specs.Fields.{Field}
+use Rattle.table_rows.specs.Rows.{Field}
 use Rattle.table_value.specs.Value.{valueAt}
 use Rattle.table_value.specs.declared.ValueRead.{ValueRead}
 use Rattle.table_value.specs.declared.ValueRead.the-variants.{Held, Null, Bad}

@@ -3,18 +3,18 @@
 ghost use mathlib.Core.Path.{_≡_};
 ghost use Prim.Native.Nat.{_+_, _*_, _^_, _≤_, _<_};
 ghost use lib.ListN.{length};
-ghost use Rattle.table_fields.specs.Flat.{fieldsFrom, nullableAt};
+ghost use Rattle.table_rows.specs.Rows.{fieldsFrom, nullableAt};
 ghost use Rattle.table_value.specs.Value.{valueAt};
 ghost use Rattle.table_record.specs.Record.{filled, stored, cleared, storedValue, pairAt, pairsFrom, lacks, isMissing, closedAt, hasRoom, recordAt};
 use json_bytes::Reading;
-use table_fields::field_type;
-use table_fields::is_nullable;
 use table_name::NameRead;
 use table_name::Next;
 use table_name::colon_at;
 use table_name::first_in;
 use table_name::name_at;
 use table_name::next_after;
+use table_rows::field_type;
+use table_rows::is_nullable;
 use table_value::ValueRead;
 use table_value::value_at;
 

@@ -2,10 +2,8 @@
 -- file or at its length.
 -- Assumes nothing.
 use Prim.Native.Nat.{ℕ, _+_, _≤_, _<_}
-use mathlib.Core.Path.{_≡_, refl}
-use mathlib.Core.Bool.{Bool, true, false, cond}
+use mathlib.Core.Path.{_≡_}
 use mathlib.Core.List.{List}
-use native.Mathlib.Omega.{arith}
 use lib.ListN.{length}
 use lib.Dec.{ltb, eqb}
 use Rattle.json_bytes.specs.Reads.{byteAt, within, literalAt}
@@ -21,7 +19,6 @@ use Rattle.json_text.specs.declared.TextRead.{TextRead}
 use Rattle.json_text.proofs.Bounds.{text-within, wrong-within}
 use Rattle.json_text.proofs.FaultKinds.{rule-few, wrong-rule}
 use Rattle.json_number.specs.Number.{numberAt, integerOf}
-use Rattle.json_number.specs.declared.Number.{Number}
 use Rattle.json_number.specs.declared.Value.{Value}
 use Rattle.json_number.specs.declared.Value.the-variants.{Fits, Beyond}
 use Rattle.json_number.specs.declared.Integer.{Integer}
@@ -45,6 +42,7 @@ use Rattle.table_value.specs.Value.{
   startsNumber,
   opens,
   valueAt,
+  tokenAt,
   notObjectOf,
   notObjectAt,
 }
@@ -92,9 +90,13 @@ module _ (s : List ℕ) (at : ℕ) (l : at ≤ length s) where
       of-integer Fraction = l
       of-integer TooLarge = l
 
-  of-number : (ty : ℕ) (v : Value) (r : Reading) → ReadingIn s at r → ValueIn s at (elim r [ Whole end ↦ numberIn at ty end v | Fault kind place ↦ Bad kind place ])
+  number-within : (r : Reading) → ReadingIn s at r → Within s at r
+  number-within (Whole end) h = h
+  number-within (Fault kind place) h = h .1 l
+
+  of-number : (ty : ℕ) (v : Value) (r : Reading) → Within s at r → ValueIn s at (elim r [ Whole end ↦ numberIn at ty end v | Fault kind place ↦ Bad kind place ])
   of-number ty v (Whole end) h = number-held ty end v h
-  of-number ty v (Fault kind place) h = h .1 l
+  of-number ty v (Fault kind place) h = h
 
   of-literal : (ty : ℕ) (r : Reading) → Within s at r → ValueIn s at (literalValue s at ty r)
   unfolding literalValue literalIn
@@ -106,15 +108,19 @@ module _ (s : List ℕ) (at : ℕ) (l : at ≤ length s) where
   unfolding valueAt stringValue numberValue textRead
   value-in ty =
       by-test (ValueIn s at) (eqb (byteAt s at) 34) _ _ (λ _. of-text ty _ (wrong-within (textType ty) s at) (textAt s at) (text-within s at l))
-      (λ _. by-test (ValueIn s at) (startsNumber (byteAt s at)) _ _ (λ _. of-number ty _ (numberAt s at .reading) (number-in s at))
+      (λ _. by-test (ValueIn s at) (startsNumber (byteAt s at)) _ _ (λ _. of-number ty _ (numberAt s at .reading) (number-within (numberAt s at .reading) (number-in s at)))
       (λ _. by-test (ValueIn s at) (opens (byteAt s at)) _ _ (λ _. l) (λ _. of-literal ty (literalAt s at) (literal-within s at l))))
 
-  not-of : (v : ValueRead) → ValueIn s at v → Within s at (notObjectOf at v)
+  not-of : (r : Reading) → Within s at r → Within s at (notObjectOf at r)
   unfolding notObjectOf
-  not-of (Held end) h = l
-  not-of (Null end) h = l
-  not-of (Bad kind place) h = by-test (Within s at) (eqb kind 15) _ _ (λ _. h) (λ _. h)
+  not-of (Whole end) h = l
+  not-of (Fault kind place) h = h
 
   pub not-object-in : Within s at (notObjectAt s at)
-  unfolding notObjectAt
-  not-object-in = not-of (valueAt s at 7) (value-in 7)
+  unfolding notObjectAt tokenAt
+  not-object-in =
+      by-test (Within s at) (opens (byteAt s at)) _ _ (λ _. l)
+      (λ _. not-of (tokenAt s at)
+      (by-test (Within s at) (eqb (byteAt s at) 34) _ _ (λ _. text-within s at l)
+      (λ _. by-test (Within s at) (startsNumber (byteAt s at)) _ _ (λ _. number-within (numberAt s at .reading) (number-in s at))
+      (λ _. literal-within s at l))))

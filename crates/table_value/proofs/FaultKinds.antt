@@ -42,6 +42,7 @@ use Rattle.table_value.specs.Value.{
   startsNumber,
   opens,
   valueAt,
+  tokenAt,
   notObjectOf,
   notObjectAt,
 }
@@ -185,24 +186,29 @@ integer-kinds s at end e = whole-number-kinds s at 3 e end
 pub integer-number-never-15 : (s : List ℕ) (at place : ℕ) → startsNumber (byteAt s at) ≡ true → valueAt s at 3 ≡ Bad 15 place → ⊥
 integer-number-never-15 s at place e bad = false≢true (rw bad at (number-value-kinds s at 3 e))
 
--- ---- 12 in place of 15, where an object belongs
-abbrev pub otherKinds : List ℕ
-otherKinds = 12 ∷ map (λ kind. cond (eqb kind 15) 12 kind) (valueKinds 7)
+-- ---- where an object belongs: those of reading a string, a number or a literal, and 12
+abbrev pub tokenKinds : List ℕ
+tokenKinds = textKinds ++ numberKinds ++ literalKinds
 
-not-of : (at : ℕ) (v : ValueRead) → ValueFaults (valueKinds 7) v → Faults otherKinds (notObjectOf at v)
-unfolding notObjectOf within
-not-of at (Held end) h = refl
-not-of at (Null end) h = refl
-not-of at (Bad kind place) h =
-    go (eqb kind 15) (each (λ k. isIn otherKinds (cond (eqb k 15) 12 k)) (valueKinds 7) refl kind h)
+token-kinds : (s : List ℕ) (at : ℕ) → Faults tokenKinds (tokenAt s at)
+unfolding tokenAt
+token-kinds s at =
+    either (Faults tokenKinds) (eqb (byteAt s at) 34) _ _ (among textKinds refl (textAt s at) (text-kinds s at))
+    (either (Faults tokenKinds) (startsNumber (byteAt s at)) _ _ (among numberKinds refl (numberAt s at .reading) (number-kinds s at))
+    (among literalKinds refl (literalAt s at) (literal-kinds s at)))
   where
-    go : (t : Bool) → In otherKinds (cond t 12 kind) → Faults otherKinds (cond t (Fault 12 place) (Fault kind place))
-    go true q = q
-    go false q = q
+    among : (ks : List ℕ) → every (isIn tokenKinds) ks ≡ true → (r : Reading) → Faults ks r → Faults tokenKinds r
+    among ks all = of-reading (Faults tokenKinds) ks (λ end. tt) (λ kind place. wider ks tokenKinds all kind)
+
+abbrev pub otherKinds : List ℕ
+otherKinds = 12 ∷ tokenKinds
 
 pub not-object-kinds : (s : List ℕ) (at : ℕ) → Faults otherKinds (notObjectAt s at)
-unfolding notObjectAt
-not-object-kinds s at = not-of at (valueAt s at 7) (value-kinds s at 7)
+unfolding notObjectAt notObjectOf
+not-object-kinds s at =
+    either (Faults otherKinds) (opens (byteAt s at)) _ _ refl
+    (of-reading (λ r. Faults otherKinds (notObjectOf at r)) tokenKinds (λ end. refl)
+    (λ kind place h. in-right (12 ∷ []) tokenKinds kind h) (tokenAt s at) (token-kinds s at))
 
 -- ---- which type has which
 -- no value belongs in a type beyond the seven: all of them have one set

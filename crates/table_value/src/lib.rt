@@ -1,11 +1,11 @@
 // A value in a field of a type: where it ends and whether it is null, or the kind and place of its
-// fault. Types by number: 0 Boolean, 1 Date, 2 Decimal, 3 Integer, 4 String, 5 StringID, 6 Text.
+// fault.
 ghost use mathlib.Core.Path.{_≡_};
 ghost use Prim.Native.Nat.{_≤_, _<_, _^_};
 ghost use lib.ListN.{length};
 ghost use Rattle.json_bytes.specs.Reads.{literalAt};
 ghost use Rattle.json_text.specs.Text.{textRead};
-ghost use Rattle.table_value.specs.Value.{textType, textHeld, dateHeld, stringIn, stringValue, decimalHeld, integerHeld, numberIn, numberValue, literalIn, literalValue, startsNumber, opens, valueAt, notObjectOf, notObjectAt};
+ghost use Rattle.table_value.specs.Value.{textType, textHeld, dateHeld, stringIn, stringValue, decimalHeld, integerHeld, numberIn, numberValue, literalIn, literalValue, startsNumber, opens, valueAt, tokenAt, notObjectAt};
 use json_bytes::Reading;
 use json_bytes::byte_at;
 use json_bytes::is_within;
@@ -21,6 +21,13 @@ use json_text::TextRead;
 use json_text::TextType;
 use json_text::Wrong;
 use json_text::read_text;
+use table_rows::BOOLEAN;
+use table_rows::DATE;
+use table_rows::DECIMAL;
+use table_rows::INTEGER;
+use table_rows::STRING;
+use table_rows::STRING_ID;
+use table_rows::TEXT;
 
 // A value read whole, the place behind it with it, or a fault.
 pub enum ValueRead {
@@ -32,10 +39,10 @@ pub enum ValueRead {
 fn text_type(ty: u32) -> TextType
     ensures { λ r. ⌜ r ≡ textType ty ⌝ }
 {
-    if ty == 4 {
+    if ty == STRING {
         return TextType::String;
     }
-    if ty == 5 {
+    if ty == STRING_ID {
         return TextType::StringID;
     }
     TextType::Text
@@ -78,10 +85,10 @@ fn string_in(s: &[u8], at: usize, ty: u32, end: usize, wrong: Wrong) -> ValueRea
     requires { ⌜ (at < length (now s)) × (wrong .rule ≤ 4) ⌝ }
     ensures { λ r. ⌜ r ≡ stringIn (now (s .entry)) at ty end wrong ⌝ }
 {
-    if is_within(4, 6, ty) {
+    if is_within(STRING, TEXT, ty) {
         return text_held(at, end, wrong);
     }
-    if ty == 1 {
+    if ty == DATE {
         return date_held(at, end, date_at(s, at));
     }
     ValueRead::Bad {
@@ -141,10 +148,10 @@ fn integer_held(at: usize, end: usize, n: Integer) -> ValueRead
 fn number_in(at: usize, ty: u32, end: usize, v: Value) -> ValueRead
     ensures { λ r. ⌜ r ≡ numberIn at ty end v ⌝ }
 {
-    if ty == 2 {
+    if ty == DECIMAL {
         return decimal_held(at, end, v);
     }
-    if ty == 3 {
+    if ty == INTEGER {
         return integer_held(at, end, integer_of(v));
     }
     ValueRead::Bad {
@@ -170,7 +177,7 @@ fn literal_in(s: &[u8], at: usize, ty: u32, end: usize) -> ValueRead
     if byte_at(s, at) == b'n' {
         return ValueRead::Null { end };
     }
-    if ty == 0 {
+    if ty == BOOLEAN {
         return ValueRead::Held { end };
     }
     ValueRead::Bad {
@@ -226,30 +233,35 @@ pub fn value_at(s: &[u8], at: usize, ty: u32) -> ValueRead
     literal_value(s, at, ty)
 }
 
-fn not_object_of(at: usize, v: ValueRead) -> Reading
-    ensures { λ r. ⌜ r ≡ notObjectOf at v ⌝ }
+// Where a string, a number or a literal ends that begins at a place, or its fault.
+fn token_at(s: &[u8], at: usize) -> Reading
+    ensures { λ r. ⌜ r ≡ tokenAt (now (s .entry)) at ⌝ }
 {
-    match v {
-        ValueRead::Held { end: _ } => Reading::Fault {
-            kind: 12,
-            place: at,
-        },
-        ValueRead::Null { end: _ } => Reading::Fault {
-            kind: 12,
-            place: at,
-        },
-        ValueRead::Bad { kind, place } => {
-            if kind == 15 {
-                return Reading::Fault { kind: 12, place };
-            }
-            Reading::Fault { kind, place }
-        }
+    let b = byte_at(s, at);
+    if b == b'"' {
+        return read_text(s, at, TextType::Text).reading;
     }
+    if starts_number(b) {
+        return number_at(s, at).reading;
+    }
+    literal_at(s, at)
 }
 
-// What is wrong with a value where an object belongs: 12, or the fault inside it.
+// What is wrong with a value where an object belongs and none stands: 12, or the fault inside it.
 pub fn not_object_at(s: &[u8], at: usize) -> Reading
     ensures { λ r. ⌜ r ≡ notObjectAt (now (s .entry)) at ⌝ }
 {
-    not_object_of(at, value_at(s, at, 7))
+    if is_opening(byte_at(s, at)) {
+        return Reading::Fault {
+            kind: 12,
+            place: at,
+        };
+    }
+    match token_at(s, at) {
+        Reading::Whole { end: _ } => Reading::Fault {
+            kind: 12,
+            place: at,
+        },
+        Reading::Fault { kind, place } => Reading::Fault { kind, place },
+    }
 }

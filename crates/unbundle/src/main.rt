@@ -9,9 +9,9 @@ use folder::argument;
 use folder::path_of;
 use folder::read_named;
 use folder::write_opened;
+use parts::part;
 use program_io::complain;
 use program_io::print;
-use table_fields::part;
 
 fn complain_refused(name: &[u8], refusal: u32) {
     match refusal {

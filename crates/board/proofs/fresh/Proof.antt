@@ -1,12 +1,13 @@
--- `board::fresh` meets its contract: both arrays compute to the lists of 81.
--- Assumes nothing.
+-- `board::fresh` meets its contract, computed.
 use mathlib.Core.Path.{refl}
-use Rattle.board.specs.Board.{listOf, boardOf, freshBoard}
+use Rattle.mark_numbers.specs.Marks.{listOf, marksFrom, freshMarks}
+use Rattle.board.specs.Board.{freshBoard}
+use borrow.Author.Needs.{needs}
 use Rattle.board.proofs.fresh.Statement.{statement}
 use Rattle.board.proofs.fresh.Tie as tie
 
 returns : tie.Need-returns
-unfolding freshBoard boardOf listOf
+unfolding freshBoard freshMarks marksFrom listOf
 returns c = refl
 
 pub fresh-spec : {M : Type 1} → statement M

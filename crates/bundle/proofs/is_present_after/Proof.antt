@@ -2,7 +2,7 @@
 use mathlib.Core.Path.{sym, ap, _∙_}
 use mathlib.Core.Bool.{not}
 use borrow.Author.Needs.{needs}
-use Rattle.bundle_bytes.specs.Files.{isPresent}
+use Rattle.parts.specs.Files.{isPresent}
 use Rattle.bundle.proofs.Laws.{file-same, file-other, shown-present, shown-new}
 use Rattle.bundle.proofs.is_present_after.Statement.{statement}
 use Rattle.bundle.proofs.is_present_after.Tie as tie

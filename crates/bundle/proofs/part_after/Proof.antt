@@ -1,7 +1,7 @@
 -- `bundle::part_after` meets its contract: another file's part of the bundle, or the new bytes.
 use mathlib.Core.Path.{sym, ap, _∙_}
 use borrow.Author.Needs.{needs}
-use Rattle.bundle_bytes.specs.Files.{bytesOf, newFile}
+use Rattle.parts.specs.Files.{bytesOf, newFile}
 use Rattle.bundle.proofs.Laws.{file-same, file-other}
 use Rattle.bundle.proofs.part_after.Statement.{statement}
 use Rattle.bundle.proofs.part_after.Tie as tie

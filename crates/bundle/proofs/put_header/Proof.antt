@@ -5,7 +5,7 @@ use mathlib.Core.List.{_++_}
 use native.Mathlib.Omega.{arith}
 use borrow.Author.Needs.{needs}
 use lib.ListN.{length, drop}
-use Rattle.bundle_bytes.specs.Files.{newFile}
+use Rattle.parts.specs.Files.{newFile}
 use Rattle.bundle_bytes.specs.Pieces.{startOf}
 use Rattle.bundle_layout.specs.Bundle.{headerSize, piecesOf}
 use Rattle.bundle_layout.specs.Change.{filesAfter}

@@ -3,10 +3,11 @@ use mathlib.Core.Path.{sym}
 use mathlib.Core.List.{flatten}
 use borrow.Author.Needs.{needs}
 use native.Mathlib.Omega.{arith}
-use Rattle.table_fields.specs.Ascii.{codes}
-use Rattle.table_fields.specs.Flat.{countBefore}
-use Rattle.table_fields.proofs.Laws.{upFrom, below-at}
-use Rattle.file_names.specs.Names.{fileNames, tails, tailStart}
+use Rattle.table_rows.specs.Ascii.{codes}
+use Rattle.table_rows.specs.Rows.{countBefore}
+use Rattle.table_rows.proofs.Laws.{upFrom, below-at}
+use Rattle.file_names.specs.Names.{fileNames, tails}
+use Rattle.file_names.specs.Flat.{tailStart}
 use Rattle.file_names.proofs.Laws.{start-past}
 use Rattle.file_names.proofs.tail_start.Statement.{statement}
 use Rattle.file_names.proofs.tail_start.Tie as tie

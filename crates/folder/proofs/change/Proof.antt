@@ -2,7 +2,7 @@
 use mathlib.Core.Path.{refl}
 use mathlib.Core.Logic.{inl}
 use denote.Ref.{now}
-use Rattle.bundle_bytes.specs.Files.{newFile}
+use Rattle.parts.specs.Files.{newFile}
 use Rattle.folder.proofs.Laws.{bundle-made}
 use borrow.Author.Needs.{needs}
 use Rattle.folder.proofs.change.Statement.{statement}

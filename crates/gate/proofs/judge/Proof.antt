@@ -1,23 +1,21 @@
--- `gate::judge` meets its contract.
+-- `gate::judge` meets its contract: a workspace of its own is room enough.
+use Prim.Native.Nat.{ℕ}
+use mathlib.Core.Path.{sym}
 use borrow.Author.Needs.{needs}
-use Rattle.gate.proofs.Laws.{judge-ends}
+use denote.Ref.{now}
+use lib.ListN.{length-replicate}
+use Rattle.gate.proofs.Laws.{own-judge}
 use Rattle.gate.proofs.judge.Statement.{statement}
 use Rattle.gate.proofs.judge.Tie as tie
 
-standing-requires : tie.Need-standing-requires
-standing-requires c κs = search needs
+slice-aggregate-judge-in : tie.Need-slice-aggregate-judge-in
+slice-aggregate-judge-in c = sym (length-replicate {A = ℕ} 794702 0)
 
-fresh-requires : tie.Need-fresh-requires
-fresh-requires c κs = search needs
-
-slice-aggregate-answer : tie.Need-slice-aggregate-answer
-slice-aggregate-answer c = search needs
-
-answer-requires : tie.Need-answer-requires
-answer-requires c κs = search needs
+judge-in-requires : tie.Need-judge-in-requires
+judge-in-requires c κs = search needs
 
 returns : tie.Need-returns
-returns c = judge-ends _ _ (c .before .before .before .standing .ensures) _ (c .before .before .fresh .ensures) _ _ (c .answer .ensures)
+returns c = own-judge (length-replicate {A = ℕ} 794702 0) (now (c .before .before .before .before .args .bundle)) (c .before .judge-in .ensures .0)
 
 pub judge-spec : {M : Type 1} → statement M
-judge-spec = tie.close (tie.spec standing-requires fresh-requires slice-aggregate-answer answer-requires returns)
+judge-spec = tie.close (tie.spec slice-aggregate-judge-in judge-in-requires returns)

@@ -1,24 +1,37 @@
--- `gate::make_change` meets its contract.
+-- `gate::make_change` meets its contract: a workspace of its own is room enough.
+use Prim.Native.Nat.{ℕ}
+use mathlib.Core.Path.{sym}
 use borrow.Author.Needs.{needs}
 use denote.Ref.{now}
-use Rattle.bundle_bytes.specs.Files.{newFile}
-use Rattle.gate.proofs.Laws.{make-ends}
+use lib.ListN.{length, length-replicate}
+use Rattle.parts.specs.Files.{newFile}
+use Rattle.board.specs.Board.{marksOn}
+use Rattle.gate.proofs.Laws.{Of81, own-make, own-output}
 use Rattle.gate.proofs.make_change.Statement.{statement}
 use Rattle.gate.proofs.make_change.Tie as tie
 
-make-bundle-requires : tie.Need-make-bundle-requires
-make-bundle-requires c κs = search needs
+slice-aggregate-make-in : tie.Need-slice-aggregate-make-in
+slice-aggregate-make-in c = sym (length-replicate {A = ℕ} 794702 0)
 
-answer-requires : tie.Need-answer-requires
-answer-requires c κs = search needs
+make-in-requires : tie.Need-make-in-requires
+make-in-requires c κs = search needs
 
 same-length : tie.Need-same-length
-same-length c = search needs
+same-length c = c .before .before .before .make-in .kept .1 .1 .1 .1 .1 .0
+
+-- asked at the start, where there is no workspace to compute yet
+board-long : (c : tie.Start) → Of81 (marksOn (c .args .board))
+board-long c = (search needs, search needs)
 
 returns : tie.Need-returns
 returns c =
-    let a = c .before .before .before .before .before .before .before .before .args in
-    (make-ends (now (a .bundle)) (a .k) (newFile (a .present) (now (a .new))) (a .board) _ _ (c .answer .ensures) _ (c .before .before .before .make-bundle .ensures .0), c .before .before .before .make-bundle .ensures .1)
+    let start = c .before .before .before .before .before .before .before .before .before in
+    let a = start .args in
+    let done = c .before .before .before .make-in .ensures in
+    let enough = length-replicate {A = ℕ} 794702 0 in
+    let f = newFile (a .present) (now (a .new)) in
+    (own-make enough (now (a .bundle)) (a .k) f (marksOn (a .board)) (board-long start) (length (now (a .out))) (done .0), own-output enough (now (a .bundle)) (a .k) f (marksOn (a .board)) (board-long start) (now (a .out)) (done .1 .0))
 
 pub make-change-spec : {M : Type 1} → statement M
-make-change-spec = tie.close (tie.spec make-bundle-requires answer-requires same-length returns)
+make-change-spec =
+    tie.close (tie.spec slice-aggregate-make-in make-in-requires same-length returns)

@@ -1,21 +1,30 @@
--- `gate::try_change` meets its contract.
+-- `gate::try_change` meets its contract: a workspace of its own is room enough.
+use Prim.Native.Nat.{ℕ}
+use mathlib.Core.Path.{sym}
 use borrow.Author.Needs.{needs}
 use denote.Ref.{now}
-use Rattle.bundle_bytes.specs.Files.{newFile}
-use Rattle.gate.proofs.Laws.{try-ends}
+use lib.ListN.{length-replicate}
+use Rattle.parts.specs.Files.{newFile}
+use Rattle.board.specs.Board.{marksOn}
+use Rattle.gate.proofs.Laws.{Of81, own-try}
 use Rattle.gate.proofs.try_change.Statement.{statement}
 use Rattle.gate.proofs.try_change.Tie as tie
 
-try-bundle-requires : tie.Need-try-bundle-requires
-try-bundle-requires c κs = search needs
+slice-aggregate-try-in : tie.Need-slice-aggregate-try-in
+slice-aggregate-try-in c = sym (length-replicate {A = ℕ} 794702 0)
 
-answer-requires : tie.Need-answer-requires
-answer-requires c κs = search needs
+try-in-requires : tie.Need-try-in-requires
+try-in-requires c κs = search needs
+
+-- asked at the start, where there is no workspace to compute yet
+board-long : (c : tie.Start) → Of81 (marksOn (c .args .board))
+board-long c = (search needs, search needs)
 
 returns : tie.Need-returns
 returns c =
-    let a = c .before .before .before .before .args in
-    try-ends (now (a .bundle)) (a .k) (newFile (a .present) (now (a .new))) (a .board) _ _ (c .answer .ensures) (c .before .try-bundle .ensures)
+    let start = c .before .before .before .before .before in
+    let a = start .args in
+    own-try (length-replicate {A = ℕ} 794702 0) (now (a .bundle)) (a .k) (newFile (a .present) (now (a .new))) (marksOn (a .board)) (board-long start) (c .before .try-in .ensures .0)
 
 pub try-change-spec : {M : Type 1} → statement M
-try-change-spec = tie.close (tie.spec try-bundle-requires answer-requires returns)
+try-change-spec = tie.close (tie.spec slice-aggregate-try-in try-in-requires returns)

@@ -1,12 +1,13 @@
--- `gate_c::knotsaddle_judge_in` meets its contract: in a lent workspace, as `knotsaddle_judge` does.
+-- `gate_c::knotsaddle_judge_in` meets its contract: the refusal of the gate of document 01.
 use borrow.Author.Needs.{needs}
-use Rattle.gate.proofs.Lent.{work-refused}
-use Rattle.gate_c.proofs.Laws.{lists-fit, called-ill, called-well, work-answered}
+use denote.Ref.{now}
+use Rattle.mark_numbers.specs.Marks.{marksIn}
+use Rattle.gate_c.proofs.Laws.{judge-called}
 use Rattle.gate_c.proofs.knotsaddle_judge_in.Statement.{statement}
 use Rattle.gate_c.proofs.knotsaddle_judge_in.Tie as tie
 
-call-fault-requires : tie.Need-call-fault-requires
-call-fault-requires c κs = search needs
+judge-lists-requires : tie.Need-judge-lists-requires
+judge-lists-requires c κs = search needs
 
 same-length : tie.Need-same-length
 same-length c = search needs
@@ -14,47 +15,20 @@ same-length c = search needs
 same-length-2 : tie.Need-same-length-2
 same-length-2 c = search needs
 
-returns : tie.Need-returns
-returns c =
-    let ill = called-ill _ _ (c .before .call-fault .ensures) (c .if1 .taken) _ _ _ in
-    (ill .0, (ill .1 .0, (ill .1 .1, work-refused _ _ _ _ _ (c .if1 .taken))))
-
-judge-in-requires : tie.Need-judge-in-requires
-judge-in-requires c κs = search needs
-
-hand-over-requires : tie.Need-hand-over-requires
-hand-over-requires c κs =
-    let tested = c .before .before .before .before .before .before in
-    lists-fit _ _ _ _ (tested .before .call-fault .ensures) (tested .if1 .left)
-
 same-length-3 : tie.Need-same-length-3
 same-length-3 c = search needs
 
-same-length-4 : tie.Need-same-length-4
-same-length-4 c = search needs
-
-same-length-5 : tie.Need-same-length-5
-same-length-5 c = search needs
-
-returns-2 : tie.Need-returns-2
-returns-2 c =
-    let over = c .before .before .before .before .hand-over .ensures in
-    let judged = c .before .before .before .before .before .before .before .before .before in
-    let tested = judged .before .before in
-    let well = called-well _ _ (tested .before .call-fault .ensures) (tested .if1 .left) _ _ _ _ (judged .judge-in .ensures .0) _ _ _ over in
-    (well .0, (well .1 .0, (well .1 .1, work-answered _ _ _ _ _ _ _ (judged .judge-in .ensures .1) (over .0))))
+returns : tie.Need-returns
+returns c =
+    let a = c .before .before .before .before .before .before .before .before .before .before .before .before .before .before .args in
+    judge-called (now (a .bundle)) (marksIn (now (a .kinds)) (now (a .places))) (now (a .work)) (c .before .before .before .before .before .before .judge-lists .ensures)
 
 pub knotsaddle-judge-in-spec : {M : Type 1} → statement M
 knotsaddle-judge-in-spec =
     tie.close
     (tie.spec
-    call-fault-requires
+    judge-lists-requires
     same-length
     same-length-2
-    returns
-    judge-in-requires
-    hand-over-requires
     same-length-3
-    same-length-4
-    same-length-5
-    returns-2)
+    returns)

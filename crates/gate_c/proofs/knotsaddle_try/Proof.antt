@@ -1,64 +1,41 @@
--- `gate_c::knotsaddle_try` meets its contract, as `knotsaddle_judge` does, on a copy of the handed board.
+-- `gate_c::knotsaddle_try` meets its contract: `knotsaddle_try_in` in a workspace of its own.
+use Prim.Native.Nat.{ℕ}
+use mathlib.Core.Path.{sym}
 use borrow.Author.Needs.{needs}
 use denote.Ref.{now}
-use Rattle.gate.specs.Gate.{tried}
-use Rattle.gate_c.specs.Calls.{handed}
-use Rattle.gate_c.proofs.Laws.{lists-fit, called-ill, called-well, verdict-on}
+use Rattle.mark_numbers.specs.Marks.{marksIn}
+use Rattle.gate_calls.specs.Calls.{Answer}
+use Rattle.gate_c.specs.Calls.{tryCalled}
+use Rattle.schedule.specs.Schedule.{schedule}
+use Rattle.gate_c.proofs.Laws.{own-long, in-own}
 use Rattle.gate_c.proofs.knotsaddle_try.Statement.{statement}
 use Rattle.gate_c.proofs.knotsaddle_try.Tie as tie
 
-call-fault-requires : tie.Need-call-fault-requires
-call-fault-requires c κs = search needs
+slice-aggregate-knotsaddle-try-in : tie.Need-slice-aggregate-knotsaddle-try-in
+slice-aggregate-knotsaddle-try-in c = sym own-long
+
+knotsaddle-try-in-requires : tie.Need-knotsaddle-try-in-requires
+knotsaddle-try-in-requires c κs = search needs
 
 same-length : tie.Need-same-length
-same-length c = search needs
+same-length c = c .before .before .before .before .before .knotsaddle-try-in .kept .1 .0
 
 same-length-2 : tie.Need-same-length-2
-same-length-2 c = search needs
+same-length-2 c = c .before .before .before .before .before .knotsaddle-try-in .kept .1 .1 .0
 
 returns : tie.Need-returns
-returns c = called-ill _ _ (c .before .call-fault .ensures) (c .if1 .taken) _ _ _
-
-board-of-requires : tie.Need-board-of-requires
-board-of-requires c κs =
-    let tested = c .before .before in
-    lists-fit _ _ _ _ (tested .before .call-fault .ensures) (tested .if1 .left)
-
-try-change-requires : tie.Need-try-change-requires
-try-change-requires c κs = search needs
-
-hand-over-requires : tie.Need-hand-over-requires
-hand-over-requires c κs =
-    let tested = c .before .before .before .before .before .before in
-    lists-fit _ _ _ _ (tested .before .call-fault .ensures) (tested .if1 .left)
-
-same-length-3 : tie.Need-same-length-3
-same-length-3 c = search needs
-
-same-length-4 : tie.Need-same-length-4
-same-length-4 c = search needs
-
-returns-2 : tie.Need-returns-2
-returns-2 c =
-    let over = c .before .before .before .before .hand-over .ensures in
-    let tried-at = c .before .before .before .before .before .before .before in
-    let copied = tried-at .before in
-    let tested = copied .before .before .before in
-    let a = tested .before .before .before .before .before .before .before .before .args in
-    let verdict = verdict-on (tried (now (a .bundle)) (a .file) (handed (a .present) (now (a .new-bytes)))) _ _ _ (tried-at .try-change .ensures) (copied .board-of .ensures) in
-    called-well _ _ (tested .before .call-fault .ensures) (tested .if1 .left) _ _ _ _ verdict _ _ _ over
+returns c =
+    let a = c .before .before .before .before .before .before .before .before .before .before .before .before .before .args in
+    let of : ℕ → Answer = λ lent. tryCalled schedule (now (a .bundle)) (a .file) (a .present) (now (a .new-bytes)) lent (marksIn (now (a .kinds)) (now (a .places))) in
+    let lent = c .before .before .before .before .before .knotsaddle-try-in .ensures in
+    (in-own (λ n. of n .refusal) (lent .0), in-own (λ n. of n .marks) (lent .1 .0))
 
 pub knotsaddle-try-spec : {M : Type 1} → statement M
 knotsaddle-try-spec =
     tie.close
     (tie.spec
-    call-fault-requires
+    slice-aggregate-knotsaddle-try-in
+    knotsaddle-try-in-requires
     same-length
     same-length-2
-    returns
-    board-of-requires
-    try-change-requires
-    hand-over-requires
-    same-length-3
-    same-length-4
-    returns-2)
+    returns)

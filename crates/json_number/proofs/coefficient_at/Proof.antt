@@ -5,7 +5,7 @@ use borrow.Author.Needs.{needs}
 use denote.Ref.{now}
 use lib.Dec.{lit<}
 use Rattle.json_bytes.proofs.Laws.{inside}
-use Rattle.json_number.specs.Number.{cappedCoefficient}
+use Rattle.json_number.specs.Capped.{cappedCoefficient}
 use Rattle.json_number.proofs.Digits.{carried-none}
 use Rattle.json_number.proofs.Parts.{zero-alone, no-digits, some-digits}
 use Rattle.json_number.proofs.coefficient_at.Statement.{statement}

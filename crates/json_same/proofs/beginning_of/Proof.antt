@@ -6,7 +6,7 @@ use native.Mathlib.Omega.{arith}
 use lib.Dec.{lit<}
 use denote.Ref.{now}
 use Rattle.json_bytes.proofs.Laws.{inside}
-use Rattle.json_same.specs.Same.{beginning}
+use Rattle.json_same.specs.Walk.{beginning}
 use Rattle.json_same.proofs.beginning_of.Statement.{statement}
 use Rattle.json_same.proofs.beginning_of.Tie as tie
 

@@ -1,6 +1,6 @@
 -- `json_same::is_end` meets its contract: by the cases of a step.
 use borrow.Author.Needs.{needs}
-use Rattle.json_same.specs.Same.{isEnd}
+use Rattle.json_same.specs.Walk.{isEnd}
 use Rattle.json_same.proofs.is_end.Statement.{statement}
 use Rattle.json_same.proofs.is_end.Tie as tie
 

@@ -4,7 +4,7 @@ use mathlib.Core.Path.{_≡_, refl, sym, _∙_}
 use native.Mathlib.Omega.{arith}
 use borrow.Author.Needs.{needs}
 use lib.ListN.{drop}
-use Rattle.json_same.specs.Same.{runFrom}
+use Rattle.json_same.specs.Walk.{runFrom}
 use Rattle.json_same.proofs.Pairs.{run-more, run-differs, run-stops, run-ends}
 use Rattle.json_same.proofs.run_of.Statement.{statement}
 use Rattle.json_same.proofs.run_of.Tie as tie

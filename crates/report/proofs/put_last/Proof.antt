@@ -1,14 +1,13 @@
--- `report::put_last` meets its contract: the two calls over the board decide which line it is.
+-- `report::put_last` meets its contract: the count decides which line it is.
 -- Assumes nothing.
 use borrow.Author.Needs.{needs}
-use denote.Ref.{now}
-use Rattle.table_fields.specs.Ascii.{codes}
-use Rattle.report.proofs.Puts.{put-accepted, refused-room, put-refused}
+use Rattle.table_rows.specs.Ascii.{codes}
+use Rattle.report.proofs.Puts.{accepted-put, refused-put}
 use Rattle.report.proofs.put_last.Statement.{statement}
 use Rattle.report.proofs.put_last.Tie as tie
 
-is-accepted-requires : tie.Need-is-accepted-requires
-is-accepted-requires c κs = search needs
+count-faults-requires : tie.Need-count-faults-requires
+count-faults-requires c κs = search needs
 
 slice-aggregate-put-text : tie.Need-slice-aggregate-put-text
 slice-aggregate-put-text c = search needs
@@ -21,35 +20,32 @@ same-length c = search needs
 
 returns : tie.Need-returns
 unfolding codes
-returns c = put-accepted _ _ _ (c .before .before .before .before .before .before .before .before .pre) (c .before .before .before .before .before .before .is-accepted .ensures) (c .before .before .before .before .before .if1 .taken) (c .before .before .put-text .ensures .0) (c .before .before .put-text .ensures .1)
-
-count-faults-requires : tie.Need-count-faults-requires
-count-faults-requires c κs = search needs
+returns c =
+    accepted-put _ _ (c .before .before .before .before .before .before .count-faults .ensures) (c .before .before .before .before .before .if1 .taken) (c .before .before .put-text .ensures)
 
 slice-aggregate-put-counted : tie.Need-slice-aggregate-put-counted
 slice-aggregate-put-counted c = search needs
 
 put-counted-requires : tie.Need-put-counted-requires
-unfolding codes
-put-counted-requires c κs = refused-room _ (now (c .before .before .before .before .before .before .args .out)) _ (c .before .before .before .before .before .before .pre) (c .before .before .before .before .is-accepted .ensures) (c .before .before .before .if1 .left) (c .before .before .count-faults .ensures)
+put-counted-requires c κs = search needs
 
 same-length-2 : tie.Need-same-length-2
 same-length-2 c = search needs
 
 returns-2 : tie.Need-returns-2
 unfolding codes
-returns-2 c = put-refused _ _ _ (c .before .before .before .before .before .before .before .before .before .pre) (c .before .before .before .before .before .before .before .is-accepted .ensures) (c .before .before .before .before .before .before .if1 .left) (c .before .before .before .before .before .count-faults .ensures) (c .before .before .put-counted .ensures)
+returns-2 c =
+    refused-put _ _ (c .before .before .before .before .before .before .count-faults .ensures) (c .before .before .before .before .before .if1 .left) (c .before .before .put-counted .ensures)
 
 pub put-last-spec : {M : Type 1} → statement M
 put-last-spec =
     tie.close
     (tie.spec
-    is-accepted-requires
+    count-faults-requires
     slice-aggregate-put-text
     put-text-requires
     same-length
     returns
-    count-faults-requires
     slice-aggregate-put-counted
     put-counted-requires
     same-length-2

@@ -1,36 +1,40 @@
--- `report::put_line` meets its contract: three texts, one behind the other.
+-- `report::put_line` meets its contract: no text, or three of them, one behind the other.
 -- Assumes nothing.
 use borrow.Author.Needs.{needs}
-use denote.Ref.{now}
-use Rattle.report.proofs.Puts.{number-room, kind-room, place-room, put-parts}
+use Rattle.report.proofs.Puts.{line-none, line-put}
 use Rattle.report.proofs.put_line.Statement.{statement}
 use Rattle.report.proofs.put_line.Tie as tie
 
 cast-kind : tie.Need-cast-kind
 cast-kind c = search needs
 
+returns : tie.Need-returns
+returns c = line-none _ _ _ (c .if1 .taken)
+
 put-ended-requires : tie.Need-put-ended-requires
-put-ended-requires c κs = number-room _ _ (now (c .before .before .before .args .out)) _ (c .before .before .before .pre)
+put-ended-requires c κs = search needs
 
 put-ended-requires-2 : tie.Need-put-ended-requires-2
-put-ended-requires-2 c κs = kind-room _ _ _ _ (c .before .before .before .before .before .before .before .pre) (c .before .before .before .put-ended .ensures)
+put-ended-requires-2 c κs = search needs
 
 put-ended-requires-3 : tie.Need-put-ended-requires-3
-put-ended-requires-3 c κs = place-room _ _ _ _ (c .before .before .before .before .before .before .before .before .before .before .before .pre) (c .before .before .before .before .before .before .before .put-ended .ensures) (c .before .before .before .put-ended2 .ensures)
+put-ended-requires-3 c κs = search needs
 
 same-length : tie.Need-same-length
 same-length c = search needs
 
-returns : tie.Need-returns
-returns c = put-parts _ _ _ _ (c .before .before .before .before .before .before .before .before .before .before .before .before .before .before .pre) (c .before .before .before .before .before .before .before .before .before .before .put-ended .ensures) (c .before .before .before .before .before .before .put-ended2 .ensures) (c .before .before .put-ended3 .ensures)
+returns-2 : tie.Need-returns-2
+returns-2 c =
+    line-put _ _ _ (c .before .before .before .before .before .before .before .before .before .before .before .before .if1 .left) (c .before .before .before .before .before .before .before .before .before .before .put-ended .ensures) (c .before .before .before .before .before .before .put-ended2 .ensures) (c .before .before .put-ended3 .ensures)
 
 pub put-line-spec : {M : Type 1} → statement M
 put-line-spec =
     tie.close
     (tie.spec
     cast-kind
+    returns
     put-ended-requires
     put-ended-requires-2
     put-ended-requires-3
     same-length
-    returns)
+    returns-2)

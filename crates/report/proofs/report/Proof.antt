@@ -1,59 +1,78 @@
--- `report::report` meets its contract: no text is longer than 4,096 bytes, so that there is room for each.
+-- `report::report` meets its contract: its tests decide whether the text is written, and then there is room for it.
 -- Assumes nothing.
 use native.Mathlib.Omega.{arith}
-use lib.ListN.{getD}
 use borrow.Author.Needs.{needs}
-use mir.Syntax.{w64}
-use mir.Val.{Fits}
 use denote.Ref.{now}
-use Rattle.table_fields.specs.Ascii.{codes}
-use Rattle.report.proofs.Lengths.{Small, report-short, board-room, report-board, refusal-room, report-refusal}
+use Rattle.table_rows.specs.Ascii.{codes}
+use Rattle.mark_numbers.specs.Marks.{marksIn}
+use Rattle.report.proofs.Lengths.{report-length}
+use Rattle.report.proofs.Written.{text-unequal, text-many, text-short, text-whole, Due, nothing, board-whole, refusal-whole}
 use Rattle.report.proofs.report.Statement.{statement}
 use Rattle.report.proofs.report.Tie as tie
 
--- the numbers of a board are those of its types
-small : (c : tie.Start) → Small (c .args .board)
-small c =
-    record {
-      kinds-small = λ m. let f : Fits w64 (getD (c .args .board .kinds) m 0) = search needs in f .fits;
-      places-small = λ m. let f : Fits w64 (getD (c .args .board .places) m 0) = search needs in f .fits;
-    }
-
 returns : tie.Need-returns
-returns c = report-short _ _ _ (c .if1 .taken)
+returns c = nothing _ _ _ (text-unequal _ _ _ (c .if1 .taken))
+
+returns-2 : tie.Need-returns-2
+returns-2 c = nothing _ _ _ (text-many _ _ _ (c .before .if1 .left) (c .if2 .taken))
+
+mul-if3 : tie.Need-mul-if3
+mul-if3 c = search needs
+
+add-if3 : tie.Need-add-if3
+add-if3 c = search needs
+
+returns-3 : tie.Need-returns-3
+returns-3 c = nothing _ _ _ (text-short _ _ _ (c .before .before .if1 .left) (c .before .if2 .left) (c .if3 .taken))
+
+-- behind all three tests
+abbrev entry : tie.Else3 → tie.Start
+entry c = c .before .before .before .before .before .before
+
+due : (c : tie.Else3) → Due (entry c .args .refusal) (marksIn (now (entry c .args .kinds)) (now (entry c .args .places))) (now (entry c .args .out))
+due c = (
+  text-whole _ _ _ (c .before .before .if1 .left) (c .before .if2 .left) (c .if3 .left),
+  omega (
+    arith,
+    report-length (marksIn (now (entry c .args .kinds)) (now (entry c .args .places))) (c .before .before .before .before .before .shared-slice-known .given) (c .before .before .before .before .shared-slice-known2 .given) (c .before .if2 .left) (entry c .args .refusal) (omega arith),
+  ),
+)
 
 put-board-requires : tie.Need-put-board-requires
-put-board-requires c κs = board-room (now (c .before .before .before .before .args .out)) (c .before .before .if1 .left) _ (small (c .before .before .before .before))
+put-board-requires c κs = search needs
 
 same-length : tie.Need-same-length
 same-length c = search needs
 
-returns-2 : tie.Need-returns-2
-returns-2 c = report-board _ _ _ (c .before .before .before .before .before .if1 .left) (small (c .before .before .before .before .before .before .before)) (c .before .before .before .before .if2 .taken) (c .before .before .put-board .ensures)
+returns-4 : tie.Need-returns-4
+returns-4 c = board-whole _ _ _ (due (c .before .before .before .before .before)) (c .before .before .before .before .if4 .taken) (c .before .before .put-board .ensures)
 
 slice-aggregate-put-counted : tie.Need-slice-aggregate-put-counted
 slice-aggregate-put-counted c = search needs
 
 put-counted-requires : tie.Need-put-counted-requires
-unfolding codes
-put-counted-requires c κs = refusal-room (now (c .before .before .before .before .before .args .out)) (c .before .before .before .if1 .left) _ (omega arith)
+put-counted-requires c κs = search needs
 
 same-length-2 : tie.Need-same-length-2
 same-length-2 c = search needs
 
-returns-3 : tie.Need-returns-3
+returns-5 : tie.Need-returns-5
 unfolding codes
-returns-3 c = report-refusal _ _ _ (c .before .before .before .before .before .before .if1 .left) (omega arith) (c .before .before .before .before .before .if2 .left) (c .before .before .put-counted .ensures)
+returns-5 c = refusal-whole _ _ _ (due (c .before .before .before .before .before .before)) (c .before .before .before .before .before .if4 .left) (c .before .before .put-counted .ensures)
 
 pub report-spec : {M : Type 1} → statement M
 report-spec =
     tie.close
     (tie.spec
     returns
+    returns-2
+    mul-if3
+    add-if3
+    returns-3
     put-board-requires
     same-length
-    returns-2
+    returns-4
     slice-aggregate-put-counted
     put-counted-requires
     same-length-2
-    returns-3)
+    returns-5)

@@ -4,7 +4,8 @@ use Prim.Native.Nat.{_-_}
 use mathlib.Core.Path.{_≡_, refl, sym, _∙_}
 use native.Mathlib.Omega.{arith}
 use Rattle.rule_cells.specs.Cells.{table}
-use Rattle.rule_hours.specs.Hours.{fieldFrom, firstField, passes}
+use Rattle.rule_hours.specs.Hours.{fieldFrom, firstField}
+use Rattle.rule_hours.specs.Asked.{passes}
 use Rattle.rule_hours.proofs.Laws.{field-hits, field-goes-on, field-ends}
 use Rattle.rule_hours.proofs.first_field.Statement.{statement}
 use Rattle.rule_hours.proofs.first_field.Tie as tie

@@ -2,7 +2,8 @@
 use borrow.Author.Needs.{needs}
 use mathlib.Core.Bool.{not}
 use mathlib.Core.Path.{ap, sym, _∙_}
-use Rattle.rule_hours.specs.Hours.{passes, breaks}
+use Rattle.rule_hours.specs.Hours.{breaks}
+use Rattle.rule_hours.specs.Asked.{passes}
 use Rattle.rule_hours.proofs.is_broken.Statement.{statement}
 use Rattle.rule_hours.proofs.is_broken.Tie as tie
 

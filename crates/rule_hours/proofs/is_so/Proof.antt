@@ -2,7 +2,8 @@
 use borrow.Author.Needs.{needs}
 use mathlib.Core.Bool.{not}
 use mathlib.Core.Path.{ap, _∙_}
-use Rattle.rule_hours.specs.Hours.{belowZero, aboveZero, isBelow, isAbove, isNull, passes}
+use Rattle.rule_hours.specs.Hours.{belowZero, aboveZero, isBelow, isAbove, isNull}
+use Rattle.rule_hours.specs.Asked.{passes}
 use Rattle.rule_hours.proofs.is_so.Statement.{statement}
 use Rattle.rule_hours.proofs.is_so.Tie as tie
 

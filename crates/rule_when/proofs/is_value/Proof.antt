@@ -2,7 +2,7 @@
 use borrow.Author.Needs.{needs}
 use mathlib.Core.Path.{_≡_, refl, sym, ap, _∙_}
 use borrow.Author.Tests.{eq-eqb, ne-eqb, lt-ltb, le-ltb, le-leb, lt-leb}
-use Rattle.table_fields.specs.Flat.{valueTextAt}
+use Rattle.table_rows.specs.Rows.{valueTextAt}
 use Rattle.rule_when.specs.When.{isValue}
 use Rattle.rule_when.proofs.is_value.Statement.{statement}
 use Rattle.rule_when.proofs.is_value.Tie as tie

@@ -1,33 +1,112 @@
--- `rules::rule_break` meets its contract: the tests that led to each answer decide the definition.
+-- `rules::rule_break` meets its contract: each arm is the line of its shape.
+use mathlib.Core.Path.{ap, sym, _∙_}
 use borrow.Author.Needs.{needs}
-use mathlib.Core.Path.{_≡_, refl, sym, ap, _∙_}
-use borrow.Author.Tests.{eq-eqb, ne-eqb, lt-ltb, le-ltb, le-leb, lt-leb}
-use Rattle.table_fields.specs.Flat.{valueTextAt}
-use Rattle.rules.specs.Judge.{ruleBreak}
+use Rattle.table_rows.specs.Rows.{valueTextAt}
+use Rattle.rules.specs.Judge.{alone, ofKey, ruleBreak}
 use Rattle.rules.proofs.rule_break.Statement.{statement}
 use Rattle.rules.proofs.rule_break.Tie as tie
 
-row-cell-requires : tie.Need-row-cell-requires
-row-cell-requires c κs = search needs
+rule-at-requires : tie.Need-rule-at-requires
+rule-at-requires c κs = search needs
 
-column-requires : tie.Need-column-requires
-column-requires c κs = search needs
+enum-known-rule : tie.Need-enum-known-rule
+enum-known-rule c = search needs
 
-when-of-requires : tie.Need-when-of-requires
-when-of-requires c κs = search needs
+key-rule-requires : tie.Need-key-rule-requires
+key-rule-requires c κs = search needs
 
-column-requires-2 : tie.Need-column-requires-2
-column-requires-2 c κs = search needs
+of-key-requires : tie.Need-of-key-requires
+of-key-requires c κs = search needs
+
+enum-known-rule-2 : tie.Need-enum-known-rule-2
+enum-known-rule-2 c = search needs
+
+field-rule-requires : tie.Need-field-rule-requires
+field-rule-requires c κs = search needs
+
+alone-requires : tie.Need-alone-requires
+alone-requires c κs = search needs
+
+enum-known-rule-3 : tie.Need-enum-known-rule-3
+enum-known-rule-3 c = search needs
+
+field-rule-requires-2 : tie.Need-field-rule-requires-2
+field-rule-requires-2 c κs = search needs
+
+alone-requires-2 : tie.Need-alone-requires-2
+alone-requires-2 c κs = search needs
+
+enum-known-rule-4 : tie.Need-enum-known-rule-4
+enum-known-rule-4 c = search needs
+
+field-rule-requires-3 : tie.Need-field-rule-requires-3
+field-rule-requires-3 c κs = search needs
+
+alone-requires-3 : tie.Need-alone-requires-3
+alone-requires-3 c κs = search needs
+
+enum-known-rule-5 : tie.Need-enum-known-rule-5
+enum-known-rule-5 c = search needs
+
+field-rule-requires-4 : tie.Need-field-rule-requires-4
+field-rule-requires-4 c κs = search needs
+
+alone-requires-4 : tie.Need-alone-requires-4
+alone-requires-4 c κs = search needs
+
+enum-known-rule-6 : tie.Need-enum-known-rule-6
+enum-known-rule-6 c = search needs
+
+none-below-requires : tie.Need-none-below-requires
+none-below-requires c κs = search needs
+
+alone-requires-5 : tie.Need-alone-requires-5
+alone-requires-5 c κs = search needs
+
+enum-known-rule-7 : tie.Need-enum-known-rule-7
+enum-known-rule-7 c = search needs
+
+some-above-requires : tie.Need-some-above-requires
+some-above-requires c κs = search needs
+
+alone-requires-6 : tie.Need-alone-requires-6
+alone-requires-6 c κs = search needs
+
+enum-known-rule-8 : tie.Need-enum-known-rule-8
+enum-known-rule-8 c = search needs
+
+together-requires : tie.Need-together-requires
+together-requires c κs = search needs
+
+alone-requires-7 : tie.Need-alone-requires-7
+alone-requires-7 c κs = search needs
+
+enum-known-rule-9 : tie.Need-enum-known-rule-9
+enum-known-rule-9 c = search needs
+
+level-rule-requires : tie.Need-level-rule-requires
+level-rule-requires c κs = search needs
+
+alone-requires-8 : tie.Need-alone-requires-8
+alone-requires-8 c κs = search needs
+
+enum-known-rule-10 : tie.Need-enum-known-rule-10
+enum-known-rule-10 c = search needs
+
+parent-break-requires : tie.Need-parent-break-requires
+parent-break-requires c κs = search needs
+
+enum-known-rule-11 : tie.Need-enum-known-rule-11
+enum-known-rule-11 c = search needs
 
 target-rule-requires : tie.Need-target-rule-requires
 target-rule-requires c κs = search needs
 
-returns : tie.Need-returns
-unfolding ruleBreak valueTextAt
-returns c = rw (← (c .before .before .before .before .before .row-cell .ensures), eq-eqb _ 4 (c .before .before .before .before .if1 .taken), ← (c .before .before .before .column .ensures), ← (c .before .before .when-of .ensures), ← (c .before .column2 .ensures), ← (c .target-rule .ensures))
+alone-requires-9 : tie.Need-alone-requires-9
+alone-requires-9 c κs = search needs
 
-column-requires-3 : tie.Need-column-requires-3
-column-requires-3 c κs = search needs
+enum-known-rule-12 : tie.Need-enum-known-rule-12
+enum-known-rule-12 c = search needs
 
 value-start-requires : tie.Need-value-start-requires
 value-start-requires c κs = search needs
@@ -41,32 +120,105 @@ part-requires c κs = search needs
 parent-type-break-requires : tie.Need-parent-type-break-requires
 parent-type-break-requires c κs = search needs
 
-returns-2 : tie.Need-returns-2
-unfolding ruleBreak valueTextAt
-returns-2 c = rw (← (c .before .before .before .before .before .before .before .row-cell .ensures), ne-eqb _ 4 (c .before .before .before .before .before .before .if1 .left), eq-eqb _ 10 (c .before .before .before .before .before .if2 .taken), ← (c .before .before .before .before .column3 .ensures), ← (c .before .before .before .value-start .ensures), ← (c .before .before .value-end .ensures), ← (c .before .part .ensures)) (c .parent-type-break .ensures)
+returns : tie.Need-returns
+unfolding ruleBreak
+returns c = rw (← (c .before .before .before .before .before .rule-at .ensures), c .before .before .before .rule .given .1) (c .of-key .ensures ∙ ap ofKey (c .before .key-rule .ensures))
 
-single-rule-requires : tie.Need-single-rule-requires
-single-rule-requires c κs = search needs
+returns-2 : tie.Need-returns-2
+unfolding ruleBreak
+returns-2 c = rw (← (c .before .before .before .before .before .rule-at .ensures), c .before .before .before .rule2 .given .1) (c .alone .ensures ∙ ap alone (c .before .field-rule .ensures))
 
 returns-3 : tie.Need-returns-3
+unfolding ruleBreak
+returns-3 c = rw (← (c .before .before .before .before .before .rule-at .ensures), c .before .before .before .rule3 .given .1) (c .alone2 .ensures ∙ ap alone (c .before .field-rule2 .ensures))
+
+returns-4 : tie.Need-returns-4
+unfolding ruleBreak
+returns-4 c = rw (← (c .before .before .before .before .before .rule-at .ensures), c .before .before .before .rule4 .given .1) (c .alone3 .ensures ∙ ap alone (c .before .field-rule3 .ensures))
+
+returns-5 : tie.Need-returns-5
+unfolding ruleBreak
+returns-5 c = rw (← (c .before .before .before .before .before .rule-at .ensures), c .before .before .before .rule5 .given .1) (c .alone4 .ensures ∙ ap alone (c .before .field-rule4 .ensures))
+
+returns-6 : tie.Need-returns-6
+unfolding ruleBreak
+returns-6 c = rw (← (c .before .before .before .before .before .rule-at .ensures), c .before .before .before .rule6 .given .1) (c .alone5 .ensures ∙ ap alone (c .before .none-below .ensures))
+
+returns-7 : tie.Need-returns-7
+unfolding ruleBreak
+returns-7 c = rw (← (c .before .before .before .before .before .rule-at .ensures), c .before .before .before .rule7 .given .1) (c .alone6 .ensures ∙ ap alone (c .before .some-above .ensures))
+
+returns-8 : tie.Need-returns-8
+unfolding ruleBreak
+returns-8 c = rw (← (c .before .before .before .before .before .rule-at .ensures), c .before .before .before .rule8 .given .1) (c .alone7 .ensures ∙ ap alone (c .before .together .ensures))
+
+returns-9 : tie.Need-returns-9
+unfolding ruleBreak
+returns-9 c = rw (← (c .before .before .before .before .before .rule-at .ensures), c .before .before .before .rule9 .given .1) (c .alone8 .ensures ∙ ap alone (c .before .level-rule .ensures))
+
+returns-10 : tie.Need-returns-10
+unfolding ruleBreak
+returns-10 c = rw (← (c .before .before .before .before .rule-at .ensures), c .before .before .rule10 .given .1) (c .parent-break .ensures)
+
+returns-11 : tie.Need-returns-11
+unfolding ruleBreak
+returns-11 c = rw (← (c .before .before .before .before .before .rule-at .ensures), c .before .before .before .rule11 .given .1) (c .alone9 .ensures ∙ ap alone (c .before .target-rule .ensures))
+
+returns-12 : tie.Need-returns-12
 unfolding ruleBreak valueTextAt
-returns-3 c = rw (← (c .before .before .before .row-cell .ensures), ne-eqb _ 4 (c .before .before .if1 .left), ne-eqb _ 10 (c .before .if2 .left)) (c .single-rule .ensures)
+returns-12 c = rw (← (c .before .before .before .before .before .before .before .rule-at .ensures), c .before .before .before .before .before .rule12 .given .1, ← (c .before .before .before .value-start .ensures), ← (c .before .before .value-end .ensures), ← (c .before .part .ensures)) (c .parent-type-break .ensures)
 
 pub rule-break-spec : {M : Type 1} → statement M
 rule-break-spec =
     tie.close
     (tie.spec
-    row-cell-requires
-    column-requires
-    when-of-requires
-    column-requires-2
+    rule-at-requires
+    enum-known-rule
+    key-rule-requires
+    of-key-requires
+    enum-known-rule-2
+    field-rule-requires
+    alone-requires
+    enum-known-rule-3
+    field-rule-requires-2
+    alone-requires-2
+    enum-known-rule-4
+    field-rule-requires-3
+    alone-requires-3
+    enum-known-rule-5
+    field-rule-requires-4
+    alone-requires-4
+    enum-known-rule-6
+    none-below-requires
+    alone-requires-5
+    enum-known-rule-7
+    some-above-requires
+    alone-requires-6
+    enum-known-rule-8
+    together-requires
+    alone-requires-7
+    enum-known-rule-9
+    level-rule-requires
+    alone-requires-8
+    enum-known-rule-10
+    parent-break-requires
+    enum-known-rule-11
     target-rule-requires
-    returns
-    column-requires-3
+    alone-requires-9
+    enum-known-rule-12
     value-start-requires
     value-end-requires
     part-requires
     parent-type-break-requires
+    returns
     returns-2
-    single-rule-requires
-    returns-3)
+    returns-3
+    returns-4
+    returns-5
+    returns-6
+    returns-7
+    returns-8
+    returns-9
+    returns-10
+    returns-11
+    returns-12)

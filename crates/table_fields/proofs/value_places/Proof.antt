@@ -1,14 +1,12 @@
--- `table_fields::value_places` meets its contract: the code's numbers are those of the document's table laid out flat, computed.
+-- `table_fields::value_places` meets its contract: the code's numbers are those of the document's tables laid out flat, computed.
 use mathlib.Core.Path.{refl}
 use mathlib.Core.List.{flatten}
-use Rattle.table_fields.specs.Ascii.{codes}
-use Rattle.table_fields.specs.Enumerations.{enumerations}
-use Rattle.table_fields.specs.Flat.{valuePlaces, placesFrom}
+use Rattle.table_fields.proofs.Opens.{open-fields}
 use Rattle.table_fields.proofs.value_places.Statement.{statement}
 use Rattle.table_fields.proofs.value_places.Tie as tie
 
 returns : tie.Need-returns
-unfolding valuePlaces placesFrom flatten enumerations codes
+unfolding open-fields flatten
 returns c = refl
 
 pub value-places-spec : {M : Type 1} → statement M

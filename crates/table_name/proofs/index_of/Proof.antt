@@ -5,7 +5,7 @@ use native.Mathlib.Omega.{arith}
 use Prim.Native.Nat.{_+_, _-_, _≤_}
 use native.Mathlib.Nat.{sub-zero, zero-add}
 use Rattle.json_chars.specs.Chars.{charsAt}
-use Rattle.table_fields.specs.Flat.{fieldsFrom}
+use Rattle.table_rows.specs.Rows.{fieldsFrom}
 use Rattle.table_name.specs.Name.{indexOf}
 use Rattle.table_name.proofs.Laws.{name-told, name-apart, index-more, index-found, index-none}
 use Rattle.table_name.proofs.index_of.Statement.{statement}

@@ -4,7 +4,7 @@ use mathlib.Core.Path.{_≡_, sym, _∙_}
 use native.Mathlib.Omega.{arith}
 use Prim.Native.Nat.{_-_, _≤_}
 use native.Mathlib.Nat.{sub-zero}
-use Rattle.table_fields.specs.Flat.{fieldsFrom}
+use Rattle.table_rows.specs.Rows.{fieldsFrom}
 use Rattle.table_record.specs.Record.{isMissing}
 use Rattle.table_record.proofs.Laws.{missing-more, missing-found, missing-none}
 use Rattle.table_record.proofs.is_missing.Statement.{statement}

@@ -5,7 +5,7 @@ use native.Mathlib.Omega.{arith}
 use denote.Ref.{now}
 use Prim.Native.Nat.{_≤_, _<_}
 use lib.ListN.{length}
-use Rattle.table_fields.proofs.Laws.{fields-length}
+use Rattle.table_rows.proofs.Laws.{fields-length}
 use Rattle.table_record.specs.Record.{startCell}
 use Rattle.table_record.proofs.Laws.{name-told, colon-told, type-told, pair-unknown, pair-twice, pair-colon, pair-value}
 use Rattle.table_record.proofs.pair_at.Statement.{statement}

@@ -4,7 +4,7 @@ use mathlib.Core.Path.{_≡_, refl, _∙_}
 use native.Mathlib.Omega.{arith}
 use Prim.Native.Nat.{_-_}
 use lib.ListN.{length}
-use Rattle.table_fields.specs.Flat.{fieldsFrom}
+use Rattle.table_rows.specs.Rows.{fieldsFrom}
 use Rattle.table_record.specs.Record.{pairsFrom}
 use Rattle.table_record.proofs.Laws.{Left, left-all, more-place, ends-place, turn-more, turn-ends, turn-neither, turn-fault}
 use Rattle.table_record.proofs.read_pairs.Statement.{statement}

@@ -1,0 +1,28 @@
+-- `board::report_board` meets its contract: a board has 81 marks, whose text fits 4,096 bytes.
+use Rattle.board.proofs.Laws.{board-written}
+use borrow.Author.Needs.{needs}
+use denote.Ref.{now}
+use Rattle.board.proofs.report_board.Statement.{statement}
+use Rattle.board.proofs.report_board.Tie as tie
+
+slice-aggregate-report : tie.Need-slice-aggregate-report
+slice-aggregate-report c = search needs
+
+slice-aggregate-report-2 : tie.Need-slice-aggregate-report-2
+slice-aggregate-report-2 c = search needs
+
+report-requires : tie.Need-report-requires
+report-requires c κs = search needs
+
+same-length : tie.Need-same-length
+same-length c = search needs
+
+returns : tie.Need-returns
+returns c =
+    let a = c .before .before .before .before .before .before .before .before .before .args in
+    board-written (a .refusal) (a .board .kinds) (a .board .places) (now (a .out)) (search needs) (search needs) (c .before .before .report .ensures)
+
+pub report-board-spec : {M : Type 1} → statement M
+report-board-spec =
+    tie.close
+    (tie.spec slice-aggregate-report slice-aggregate-report-2 report-requires same-length returns)

@@ -1,0 +1,4 @@
+pub mod Demand3
+pub mod Refusals
+pub mod Lent
+pub mod MarkKinds

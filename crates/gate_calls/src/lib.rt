@@ -1,0 +1,1 @@
+// The calls of any gate are definitions and laws: see `specs/` and `proofs/`.

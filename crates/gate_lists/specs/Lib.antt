@@ -1,0 +1,2 @@
+pub mod Which
+pub mod Stands

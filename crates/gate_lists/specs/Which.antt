@@ -1,0 +1,15 @@
+-- The gates that there are, and what a call over lists answers.
+use Prim.Native.Nat.{ℕ}
+use Rattle.bundle.specs.declared.Made.{Made}
+use Rattle.gate_marks.specs.Gate.{Gate}
+use Rattle.gate_calls.specs.Calls.{Answer}
+use Rattle.schedule.specs.Schedule.{schedule}
+use Rattle.gate_lists.specs.declared.Which.{Which}
+use Rattle.gate_lists.specs.declared.Which.the-variants.{Schedule}
+
+unfoldable pub gateCalled : Which → Gate
+gateCalled Schedule = schedule
+
+-- the numbers of an answer; its marks are in the lists
+unfoldable pub madeOf : Answer → Made
+madeOf x = record { refusal = x .refusal; length = x .length }

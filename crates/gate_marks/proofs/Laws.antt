@@ -1,0 +1,148 @@
+-- What callers cite: a mark is decided by the files that it reads, and stays as it was where another is changed; which files
+-- are read; and what stands in the list of cells afterwards.
+-- Assumes nothing.
+use Prim.Native.Nat.{ℕ, zero, suc, _+_, _-_, _≤_, _<_}
+use mathlib.Core.Path.{_≡_, refl, sym, ap, _∙_}
+use mathlib.Core.Bool.{Bool, true, false, cond, _&&_, _||_, true≢false}
+use mathlib.Core.Logic.{⊎-elim}
+use mathlib.Core.List.{List}
+use native.Mathlib.Nat.{eq-or-lt-of-le}
+use native.Mathlib.Numerals.{add-one}
+use native.Mathlib.Omega.{arith}
+use borrow.Author.Tests.{lt-ltb, le-ltb, eq-eqb, ltb-true, ltb-false}
+use lib.ListN.{length}
+use lib.Dec.{ltb, eqb}
+use Rattle.json_bytes.proofs.Laws.{by-test, both-left, both-right}
+use Rattle.parts.specs.Files.{File}
+use Rattle.bundle_bytes.specs.Pieces.{changed}
+use Rattle.bundle_bytes.proofs.Laws.{changed-other}
+use Rattle.mark_numbers.specs.declared.Mark.{Mark}
+use Rattle.mark_numbers.specs.Marks.{Marks, notJudged}
+use Rattle.table_file.specs.File.{Expected}
+use Rattle.rule_shape.specs.declared.Rule.{Rule}
+use Rattle.rule_shape.specs.Rule.{firstOf, secondOf, reads}
+use Rattle.gate_marks.specs.declared.Scope.{Scope}
+use Rattle.gate_marks.specs.declared.Scope.the-variants.{Full}
+use Rattle.gate_marks.specs.Gate.{Gate, ruleOf, markReads, readsFile}
+use Rattle.gate_marks.specs.Work.{roomStart, cellsIn, readOf, workRead}
+use Rattle.gate_marks.specs.Marks.{fileMark, ruleMarkAt, markAt, fullMarks}
+use Rattle.gate_marks.specs.Again.{touched, newMark, newMarks, neededFrom, needed, isNeeded}
+use Rattle.gate_marks.proofs.Rooms.{room-grows, work-length, cells-other, cells-read}
+use Rattle.gate_marks.proofs.Reading.{by-last}
+
+-- ---- the files that a mark reads
+or-true : (t : Bool) → (t || true) ≡ true
+or-true true = refl
+or-true false = refl
+
+module _ (r : Rule) where
+  reads-first : reads r (firstOf r) ≡ true
+  unfolding reads
+  reads-first = rw (eq-eqb (firstOf r) (firstOf r) refl)
+
+  reads-second : reads r (secondOf r) ≡ true
+  unfolding reads
+  reads-second = rw (eq-eqb (secondOf r) (secondOf r) refl) (or-true (eqb (firstOf r) (secondOf r)))
+
+module _ (n : ℕ) (rule : ℕ → Rule) (m : ℕ) where
+  pub own-reads : m < n → markReads n rule m m ≡ true
+  unfolding markReads
+  own-reads l = rw (lt-ltb m n l, eq-eqb m m refl)
+
+  module _ (l : n ≤ m) where
+    pub first-reads : markReads n rule m (firstOf (rule (m - n))) ≡ true
+    unfolding markReads
+    first-reads = rw (le-ltb m n l) (reads-first (rule (m - n)))
+
+    pub second-reads : markReads n rule m (secondOf (rule (m - n))) ≡ true
+    unfolding markReads
+    second-reads = rw (le-ltb m n l) (reads-second (rule (m - n)))
+
+-- ---- two marks of one number, each a file's own or that of a rule over files a and b, are the same where these are
+pub same-mark : (n m a b : ℕ) (x y u v : Mark) → (m < n → x ≡ y) → (n ≤ m → a < n → b < n → u ≡ v) → cond (ltb m n) x (cond (ltb a n && ltb b n) u notJudged) ≡ cond (ltb m n) y (cond (ltb a n && ltb b n) v notJudged)
+same-mark n m a b x y u v own rule = go (ltb m n) refl (ltb a n && ltb b n) refl
+  where
+    go : (t : Bool) → ltb m n ≡ t → (w : Bool) → (ltb a n && ltb b n) ≡ w → cond t x (cond w u notJudged) ≡ cond t y (cond w v notJudged)
+    go true e w f = own (ltb-true m n e)
+    go false e true f = rule (ltb-false m n e) (ltb-true a n (both-left (ltb a n) (ltb b n) f)) (ltb-true b n (both-right (ltb a n) (ltb b n) f))
+    go false e false f = refl
+
+-- ---- so a mark is decided by the files that it reads, and by those that the set has
+module _ (g : Gate) (m : ℕ) (files others : ℕ → File) where
+  mark-by : (m < g .files → files m ≡ others m) → (g .files ≤ m → firstOf (ruleOf g m) < g .files → secondOf (ruleOf g m) < g .files → (files (firstOf (ruleOf g m)) ≡ others (firstOf (ruleOf g m))) × (files (secondOf (ruleOf g m)) ≡ others (secondOf (ruleOf g m)))) → markAt g m files ≡ markAt g m others
+  unfolding markAt ruleMarkAt
+  mark-by own both =
+      same-mark (g .files) m (firstOf (ruleOf g m)) (secondOf (ruleOf g m)) _ _ _ _ (λ l. ap (fileMark (g .expected m)) (own l))
+      (λ l a b. let same = both l a b in rw (same .0, same .1))
+
+  pub mark-same : ((k : ℕ) → readsFile g m k ≡ true → files k ≡ others k) → markAt g m files ≡ markAt g m others
+  mark-same same =
+      mark-by (λ l. same m (own-reads (g .files) (g .rule) m l))
+      (λ l _ _. (same _ (first-reads (g .files) (g .rule) m l), same _ (second-reads (g .files) (g .rule) m l)))
+
+  pub mark-below : ((k : ℕ) → k < g .files → files k ≡ others k) → markAt g m files ≡ markAt g m others
+  mark-below same = mark-by (same m) (λ _ a b. (same _ a, same _ b))
+
+-- and stays as it was where a file is changed that it does not read
+pub mark-keeps : (g : Gate) (m : ℕ) (files : ℕ → File) (k : ℕ) (f : File) → readsFile g m k ≡ false → markAt g m (changed files k f) ≡ markAt g m files
+mark-keeps g m files k f none =
+    mark-same g m (changed files k f) files (λ j e. changed-other files k f j (λ q. true≢false (sym e ∙ ap (readsFile g m) q ∙ none)))
+
+-- ---- a full judgement judges every mark, whatever marks were handed in
+pub full-marks : (g : Gate) (files : ℕ → File) (handed : Marks) → newMarks g Full files handed ≡ fullMarks g files
+unfolding newMarks newMark touched fullMarks
+full-marks g files handed = refl
+
+-- ---- a file is needed where a mark that is judged reads it
+module _ (n : ℕ) (rule : ℕ → Rule) (scope : Scope) (file : ℕ) where
+  -- one that is there is found from any mark up to it
+  wanted-from : (left at m : ℕ) → at ≤ m → m < at + left → (touched n rule scope m && markReads n rule m file) ≡ true → neededFrom n rule scope file left at ≡ true
+  unfolding neededFrom
+  wanted-from zero at m l h e = absurd (omega arith)
+  wanted-from (suc left) at m l h e =
+      ⊎-elim (λ q. let here : (touched n rule scope at && markReads n rule at file) ≡ true = rw q e in rw (here, neededFrom))
+      (λ later. or-later (touched n rule scope at && markReads n rule at file) (wanted-from left (suc at) m later (omega arith) e)) (eq-or-lt-of-le l)
+    where
+      or-later : (t : Bool) {u : Bool} → u ≡ true → (elim t [ true ↦ true | false ↦ u ]) ≡ true
+      or-later true e = refl
+      or-later false e = e
+
+  pub needed-by : (count m : ℕ) → m < n + count → touched n rule scope m ≡ true → markReads n rule m file ≡ true → needed n count rule scope file ≡ true
+  unfolding needed
+  needed-by count m l e r = wanted-from (n + count) 0 m (omega arith) (omega arith) (rw (e, r))
+
+-- in a full judgement every file is needed
+pub all-needed : (g : Gate) (f : ℕ) → f < g .files → isNeeded g Full f ≡ true
+unfolding touched
+all-needed g f l = needed-by (g .files) (g .rule) Full f (g .rules) f (omega arith) refl (own-reads (g .files) (g .rule) f l)
+
+-- ---- what is left in the list of cells
+module _ (expected : ℕ → Expected) (needed : ℕ → Bool) (files : ℕ → File) (lent : List ℕ) where
+  pub work-long : (n : ℕ) → length (workRead expected needed files n lent) ≡ length lent
+  unfolding workRead
+  work-long zero = refl
+  work-long (suc n) =
+      by-test {A = List ℕ} (λ r. length r ≡ length lent) (needed n) _ _ (λ _. work-length expected n (files n) (workRead expected needed files n lent) ∙ work-long n) (λ _. work-long n)
+
+  -- the cells of a file that is needed stand in their place, and what stood in the place of any other is there still
+  pub cells-needed : (n f : ℕ) → roomStart expected n ≤ length lent → f < n → needed f ≡ true → cellsIn expected (workRead expected needed files n lent) f ≡ readOf (expected f) (files f) .cells
+  unfolding workRead
+  cells-needed zero f room l e = absurd (omega arith)
+  cells-needed (suc n) f room l e =
+      let before = workRead expected needed files n lent in
+      let least : roomStart expected n ≤ length lent = omega (arith, room-grows expected n (suc n) (omega arith)) in
+      by-last f n (omega arith) (λ q. let here : needed n ≡ true = rw q at e in rw (q, here) (cells-read expected n (files n) before (omega (arith, work-long n, ap (roomStart expected) (add-one n)))))
+      (λ h other. by-test (λ r. cellsIn expected r f ≡ readOf (expected f) (files f) .cells) (needed n) _ _ (λ _. cells-other expected n (files n) before f other ∙ cells-needed n f least h e) (λ _. cells-needed n f least h e))
+
+  pub cells-kept : (n f : ℕ) → needed f ≡ false → cellsIn expected (workRead expected needed files n lent) f ≡ cellsIn expected lent f
+  unfolding workRead
+  cells-kept zero f e = refl
+  cells-kept (suc n) f e =
+      by-test (λ r. cellsIn expected r f ≡ cellsIn expected lent f) (needed n) _ _ (λ t. cells-other expected n (files n) (workRead expected needed files n lent) f (λ q. true≢false (sym t ∙ ap needed (sym q) ∙ e)) ∙ cells-kept n f e) (λ _. cells-kept n f e)
+
+-- of files that are the same, the same
+pub work-same : (expected : ℕ → Expected) (needed : ℕ → Bool) (files others : ℕ → File) (lent : List ℕ) (n : ℕ) → ((i : ℕ) → i < n → files i ≡ others i) → workRead expected needed files n lent ≡ workRead expected needed others n lent
+unfolding workRead
+work-same expected needed files others lent zero same = refl
+work-same expected needed files others lent (suc n) same =
+    rw (same n (omega arith), work-same expected needed files others lent n (λ i l. same i (omega arith)))

@@ -1,0 +1,5 @@
+pub mod Rooms
+pub mod Reading
+pub mod Laws
+pub mod Marks
+pub mod MarkKinds

@@ -1,0 +1,5 @@
+pub mod Gate
+pub mod Work
+pub mod Marks
+pub mod Again
+pub mod Code

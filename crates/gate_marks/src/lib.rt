@@ -1,0 +1,445 @@
+// The marks of a set from its files, for any gate and wherever the files stand. Tables that are lent
+// describe the gate; the files are parts of three lent slices. Each file that a judged mark reads is
+// read once, into a place of its own in a lent list of cells, and each rule is judged over the cells of
+// the files that its row names.
+ghost use mathlib.Core.Path.{_≡_};
+ghost use mathlib.Core.Bool.{true, _&&_};
+ghost use Prim.Native.Nat.{_+_, _-_, _*_, _/_, _≤_, _<_};
+ghost use lib.ListN.{length, set};
+ghost use lib.Dec.{leb, eqb};
+ghost use Rattle.parts.specs.Files.{newFile};
+ghost use Rattle.standing.specs.Standing.{standing};
+ghost use Rattle.bundle_bytes.specs.Pieces.{written};
+ghost use Rattle.mark_numbers.specs.Marks.{marksIn, marksFrom};
+ghost use Rattle.table_file.specs.File.{fileOf};
+ghost use Rattle.rule_shape.specs.Rule.{ruleFrom};
+ghost use Rattle.found_marks.specs.Found.{countIn, tableIn, foundMark};
+ghost use Rattle.gate_marks.specs.Gate.{gateFrom, expectedIn, markReads};
+ghost use Rattle.gate_marks.specs.Work.{zeros, roomStart, workRead};
+ghost use Rattle.gate_marks.specs.Again.{touched, needed, newMarks, workJudged, canJudge, marksAfter, workAfterwards};
+ghost use Rattle.gate_marks.specs.Code.{roomIn, roomsIn, Starts, ReadTo, putMark};
+use found_marks::count_of;
+use found_marks::mark_at;
+use rule_shape::first_file;
+use rule_shape::rule_count;
+use rule_shape::second_file;
+use standing::is_there;
+use standing::part_standing;
+use table_file::FileRead;
+use table_file::read_file;
+use table_rows::cell_at;
+use table_rows::field_count;
+use table_rows::first_field;
+use table_rows::rows_after;
+
+// What is judged: every mark, or after a change those that read the changed file.
+pub enum Scope {
+    Full,
+    Change { file: usize },
+}
+
+// How many cells file k has: those of one record for a singleton, of 4,096 for any other table.
+fn room_of(forms: &[u32], fields: &[u32], k: usize) -> usize
+    ensures { λ r. ⌜ r ≡ roomIn (now (forms .entry)) (now (fields .entry)) k ⌝ }
+{
+    let count = count_of(forms, fields, k);
+    if 64 < count {
+        return 0;
+    }
+    if cell_at(forms, 2, k, 0) == 1 {
+        return 2 * count;
+    }
+    8192 * count
+}
+
+// Puts down where the cells of each of n files start, and behind them where the last ones end; answers
+// whether that is within a limit.
+fn fill_starts(forms: &[u32], fields: &[u32], n: usize, limit: usize, starts: &mut [usize]) -> bool
+    requires { ⌜ n < length (now starts) ⌝ }
+    ensures { λ r. ⌜ r ≡ leb (roomsIn (now (forms .entry)) (now (fields .entry)) n) limit ⌝ }
+    ensures { λ r. ⌜ (r ≡ true → Starts (roomsIn (now (forms .entry)) (now (fields .entry))) n (now (starts .exit))) ⌝ }
+{
+    let mut start = 0;
+    starts[0] = 0;
+    let mut file = 0;
+    while file < n {
+        let room = room_of(forms, fields, file);
+        if limit < room {
+            return false;
+        }
+        if limit - room < start {
+            return false;
+        }
+        start += room;
+        file += 1;
+        starts[file] = start;
+    }
+    true
+}
+
+fn clear(cells: &mut [u32])
+    ensures { λ _. ⌜ now (cells .exit) ≡ zeros (length (now (cells .entry))) ⌝ }
+{
+    let mut i = 0;
+    while i < cells.len() {
+        cells[i] = 0;
+        i += 1;
+    }
+}
+
+// Reads file k into cells that are its own, whatever they held.
+fn read_own(
+    forms: &[u32],
+    fields: &[u32],
+    names: &[u8],
+    fixed: &[u8],
+    k: usize,
+    present: bool,
+    s: &[u8],
+    cells: &mut [u32],
+) -> FileRead
+    ensures { λ r. ⌜ r ≡ fileOf (expectedIn (now (forms .entry)) (now (fields .entry)) (now (names .entry)) (now (fixed .entry)) k) (newFile present (now (s .entry))) (zeros (length (now (cells .entry)))) .read ⌝ }
+    ensures { λ _. ⌜ now (cells .exit) ≡ fileOf (expectedIn (now (forms .entry)) (now (fields .entry)) (now (names .entry)) (now (fixed .entry)) k) (newFile present (now (s .entry))) (zeros (length (now (cells .entry)))) .cells ⌝ }
+{
+    clear(cells);
+    let form = cell_at(forms, 2, k, 0);
+    let required = cell_at(forms, 2, k, 1) == 1;
+    let own = rows_after(fields, first_field(fields, k));
+    let count = field_count(fields, k);
+    read_file(form, required, present, s, fixed, own, names, count, cells)
+}
+
+// Reads file k where it stands, its cells into its place of `work`, its mark and the number of its
+// records into lists.
+fn read_one<'a>(
+    a: &'a [u8],
+    b: &'a [u8],
+    c: &'a [u8],
+    stand: &[usize],
+    forms: &[u32],
+    fields: &[u32],
+    names: &[u8],
+    fixed: &[u8],
+    k: usize,
+    from: usize,
+    to: usize,
+    work: &mut [u32],
+    kinds: &mut [u32],
+    places: &mut [usize],
+    records: &mut [usize],
+)
+    requires { ⌜ (k < 32) × (length (now kinds) ≡ 32) × (length (now places) ≡ 32) × (length (now records) ≡ 32) × (from ≤ to) × (to ≤ length (now work)) ⌝ }
+    ensures { λ _. ⌜ now (work .exit) ≡ written (now (work .entry)) from (fileOf (expectedIn (now (forms .entry)) (now (fields .entry)) (now (names .entry)) (now (fixed .entry)) k) (standing (now (a .entry)) (now (b .entry)) (now (c .entry)) (now (stand .entry)) k) (zeros (to - from)) .cells) ⌝ }
+    ensures { λ _. ⌜ now (kinds .exit) ≡ set (now (kinds .entry)) k (fileOf (expectedIn (now (forms .entry)) (now (fields .entry)) (now (names .entry)) (now (fixed .entry)) k) (standing (now (a .entry)) (now (b .entry)) (now (c .entry)) (now (stand .entry)) k) (zeros (to - from)) .read .kind) ⌝ }
+    ensures { λ _. ⌜ now (places .exit) ≡ set (now (places .entry)) k (fileOf (expectedIn (now (forms .entry)) (now (fields .entry)) (now (names .entry)) (now (fixed .entry)) k) (standing (now (a .entry)) (now (b .entry)) (now (c .entry)) (now (stand .entry)) k) (zeros (to - from)) .read .place) ⌝ }
+    ensures { λ _. ⌜ now (records .exit) ≡ set (now (records .entry)) k (fileOf (expectedIn (now (forms .entry)) (now (fields .entry)) (now (names .entry)) (now (fixed .entry)) k) (standing (now (a .entry)) (now (b .entry)) (now (c .entry)) (now (stand .entry)) k) (zeros (to - from)) .read .records) ⌝ }
+{
+    let there = is_there(stand, k);
+    let s = part_standing(a, b, c, stand, k);
+    let read = read_own(
+        forms,
+        fields,
+        names,
+        fixed,
+        k,
+        there,
+        s,
+        &mut work[from..to],
+    );
+    kinds[k] = read.kind;
+    places[k] = read.place;
+    records[k] = read.records;
+}
+
+// Whether mark m reads file k, of n files' marks and those of the rules.
+fn reads_file(n: usize, rules: &[u32], m: usize, k: usize) -> bool
+    ensures { λ r. ⌜ r ≡ markReads n (ruleFrom (now (rules .entry))) m k ⌝ }
+{
+    if m < n {
+        return m == k;
+    }
+    let i = m - n;
+    if first_file(rules, i) == k {
+        return true;
+    }
+    second_file(rules, i) == k
+}
+
+// Whether mark m is judged.
+fn is_touched(n: usize, rules: &[u32], scope: Scope, m: usize) -> bool
+    ensures { λ r. ⌜ r ≡ touched n (ruleFrom (now (rules .entry))) scope m ⌝ }
+{
+    match scope {
+        Scope::Full => true,
+        Scope::Change { file } => reads_file(n, rules, m, file),
+    }
+}
+
+// Whether mark m is judged and reads a file.
+fn is_wanted(n: usize, rules: &[u32], scope: Scope, m: usize, file: usize) -> bool
+    ensures { λ r. ⌜ r ≡ touched n (ruleFrom (now (rules .entry))) scope m && markReads n (ruleFrom (now (rules .entry))) m file ⌝ }
+{
+    if is_touched(n, rules, scope, m) {
+        return reads_file(n, rules, m, file);
+    }
+    false
+}
+
+// Whether some mark is judged that reads a file.
+fn is_needed(n: usize, rules: &[u32], scope: Scope, file: usize) -> bool
+    requires { ⌜ n ≤ 32 ⌝ }
+    ensures { λ r. ⌜ r ≡ needed n (length (now (rules .entry)) / 9) (ruleFrom (now (rules .entry))) scope file ⌝ }
+{
+    let marks = n + rule_count(rules);
+    let mut m = 0;
+    while m < marks {
+        if is_wanted(n, rules, scope, m, file) {
+            return true;
+        }
+        m += 1;
+    }
+    false
+}
+
+// Reads each file that is needed, once.
+fn read_needed<'a>(
+    a: &'a [u8],
+    b: &'a [u8],
+    c: &'a [u8],
+    stand: &[usize],
+    forms: &[u32],
+    fields: &[u32],
+    names: &[u8],
+    fixed: &[u8],
+    rules: &[u32],
+    scope: Scope,
+    starts: &[usize],
+    work: &mut [u32],
+    kinds: &mut [u32],
+    places: &mut [usize],
+    records: &mut [usize],
+)
+    requires { ⌜ (length (now forms) / 2 ≤ 32) × (roomStart (expectedIn (now forms) (now fields) (now names) (now fixed)) (length (now forms) / 2) ≤ length (now work)) × (length (now starts) ≡ 33) × (length (now kinds) ≡ 32) × (length (now places) ≡ 32) × (length (now records) ≡ 32) ⌝ }
+    requires { ⌜ Starts (roomStart (expectedIn (now forms) (now fields) (now names) (now fixed))) (length (now forms) / 2) (now starts) ⌝ }
+    ensures { λ _. ⌜ ReadTo (length (now (forms .entry)) / 2) (expectedIn (now (forms .entry)) (now (fields .entry)) (now (names .entry)) (now (fixed .entry))) (needed (length (now (forms .entry)) / 2) (length (now (rules .entry)) / 9) (ruleFrom (now (rules .entry))) scope) (standing (now (a .entry)) (now (b .entry)) (now (c .entry)) (now (stand .entry))) (now (work .exit)) (now (kinds .exit)) (now (places .exit)) (now (records .exit)) ⌝ }
+    ensures { λ _. ⌜ now (work .exit) ≡ workRead (expectedIn (now (forms .entry)) (now (fields .entry)) (now (names .entry)) (now (fixed .entry))) (needed (length (now (forms .entry)) / 2) (length (now (rules .entry)) / 9) (ruleFrom (now (rules .entry))) scope) (standing (now (a .entry)) (now (b .entry)) (now (c .entry)) (now (stand .entry))) (length (now (forms .entry)) / 2) (now (work .entry)) ⌝ }
+{
+    let n = forms.len() / 2;
+    let mut k = 0;
+    while k < n {
+        if is_needed(n, rules, scope, k) {
+            let from = starts[k];
+            let to = starts[k + 1];
+            read_one(
+                a,
+                b,
+                c,
+                stand,
+                forms,
+                fields,
+                names,
+                fixed,
+                k,
+                from,
+                to,
+                work,
+                kinds,
+                places,
+                records,
+            );
+            k += 1;
+        } else {
+            k += 1;
+        }
+    }
+}
+
+// Puts the judged marks over those of the lists.
+fn put_marks<'a>(
+    a: &'a [u8],
+    b: &'a [u8],
+    c: &'a [u8],
+    stand: &[usize],
+    forms: &[u32],
+    fields: &[u32],
+    rules: &[u32],
+    values: &[u32],
+    texts: &[u8],
+    scope: Scope,
+    starts: &[usize],
+    work: &[u32],
+    own_kinds: &[u32],
+    own_places: &[usize],
+    records: &[usize],
+    kinds: &mut [u32],
+    places: &mut [usize],
+)
+    requires { ⌜ (length (now kinds) ≡ length (now forms) / 2 + length (now rules) / 9) × (length (now places) ≡ length (now forms) / 2 + length (now rules) / 9) ⌝ }
+    ensures { λ _. ⌜ marksIn (now (kinds .exit)) (now (places .exit)) ≡ marksFrom (length (now (forms .entry)) / 2 + length (now (rules .entry)) / 9) (putMark (length (now (forms .entry)) / 2) (ruleFrom (now (rules .entry))) scope (foundMark (length (now (forms .entry)) / 2) (ruleFrom (now (rules .entry))) (now (values .entry)) (now (texts .entry)) (tableIn (standing (now (a .entry)) (now (b .entry)) (now (c .entry)) (now (stand .entry))) (countIn (now (forms .entry)) (now (fields .entry))) (now (starts .entry)) (now (work .entry)) (now (records .entry))) (marksIn (now («own_kinds» .entry)) (now («own_places» .entry)))) (marksIn (now (kinds .entry)) (now (places .entry)))) ⌝ }
+{
+    let n = forms.len() / 2;
+    let marks = n + rule_count(rules);
+    let mut m = 0;
+    while m < marks {
+        if is_touched(n, rules, scope, m) {
+            let mark = mark_at(
+                a,
+                b,
+                c,
+                stand,
+                forms,
+                fields,
+                rules,
+                values,
+                texts,
+                n,
+                m,
+                starts,
+                work,
+                own_kinds,
+                own_places,
+                records,
+            );
+            kinds[m] = mark.kind;
+            places[m] = mark.place;
+            m += 1;
+        } else {
+            m += 1;
+        }
+    }
+}
+
+// Whether the lists are of just as many marks as n files and the rules have.
+fn has_lists(n: usize, rules: &[u32], kinds: &[u32], places: &[usize]) -> bool
+    requires { ⌜ n ≤ 32 ⌝ }
+    ensures { λ r. ⌜ r ≡ eqb (length (now (kinds .entry))) (n + length (now (rules .entry)) / 9) && eqb (length (now (places .entry))) (n + length (now (rules .entry)) / 9) ⌝ }
+{
+    let marks = n + rule_count(rules);
+    if kinds.len() == marks {
+        return places.len() == marks;
+    }
+    false
+}
+
+// Reads the files that are needed into their places of `work` and puts the judged marks over those of
+// the lists.
+fn judge_marks<'a>(
+    a: &'a [u8],
+    b: &'a [u8],
+    c: &'a [u8],
+    stand: &[usize],
+    forms: &[u32],
+    fields: &[u32],
+    names: &[u8],
+    fixed: &[u8],
+    rules: &[u32],
+    values: &[u32],
+    texts: &[u8],
+    scope: Scope,
+    starts: &[usize],
+    work: &mut [u32],
+    kinds: &mut [u32],
+    places: &mut [usize],
+)
+    requires { ⌜ (length (now forms) / 2 ≤ 32) × (roomStart (expectedIn (now forms) (now fields) (now names) (now fixed)) (length (now forms) / 2) ≤ length (now work)) × (length (now starts) ≡ 33) × (length (now kinds) ≡ length (now forms) / 2 + length (now rules) / 9) × (length (now places) ≡ length (now forms) / 2 + length (now rules) / 9) ⌝ }
+    requires { ⌜ Starts (roomStart (expectedIn (now forms) (now fields) (now names) (now fixed))) (length (now forms) / 2) (now starts) ⌝ }
+    ensures { λ _. ⌜ marksIn (now (kinds .exit)) (now (places .exit)) ≡ newMarks (gateFrom (now (forms .entry)) (now (fields .entry)) (now (names .entry)) (now (fixed .entry)) (now (rules .entry)) (now (values .entry)) (now (texts .entry))) scope (standing (now (a .entry)) (now (b .entry)) (now (c .entry)) (now (stand .entry))) (marksIn (now (kinds .entry)) (now (places .entry))) ⌝ }
+    ensures { λ _. ⌜ now (work .exit) ≡ workJudged (gateFrom (now (forms .entry)) (now (fields .entry)) (now (names .entry)) (now (fixed .entry)) (now (rules .entry)) (now (values .entry)) (now (texts .entry))) scope (standing (now (a .entry)) (now (b .entry)) (now (c .entry)) (now (stand .entry))) (now (work .entry)) ⌝ }
+{
+    let mut own_kinds = [0u32; 32];
+    let mut own_places = [0usize; 32];
+    let mut records = [0usize; 32];
+    read_needed(
+        a,
+        b,
+        c,
+        stand,
+        forms,
+        fields,
+        names,
+        fixed,
+        rules,
+        scope,
+        starts,
+        work,
+        &mut own_kinds,
+        &mut own_places,
+        &mut records,
+    );
+    put_marks(
+        a,
+        b,
+        c,
+        stand,
+        forms,
+        fields,
+        rules,
+        values,
+        texts,
+        scope,
+        starts,
+        work,
+        &own_kinds,
+        &own_places,
+        &records,
+        kinds,
+        places,
+    );
+}
+
+// Judges the marks in scope from the files that stand in three slices, for the gate that the tables
+// describe: puts them over those of the two lists. Answers whether it could: a workspace that is too
+// short, lists of another length than there are marks, or over 32 files leave everything as it is.
+pub fn judge_files<'a>(
+    a: &'a [u8],
+    b: &'a [u8],
+    c: &'a [u8],
+    stand: &[usize],
+    forms: &[u32],
+    fields: &[u32],
+    names: &[u8],
+    fixed: &[u8],
+    rules: &[u32],
+    values: &[u32],
+    texts: &[u8],
+    scope: Scope,
+    work: &mut [u32],
+    kinds: &mut [u32],
+    places: &mut [usize],
+) -> bool
+    ensures { λ r. ⌜ r ≡ canJudge (gateFrom (now (forms .entry)) (now (fields .entry)) (now (names .entry)) (now (fixed .entry)) (now (rules .entry)) (now (values .entry)) (now (texts .entry))) (length (now (work .entry))) (marksIn (now (kinds .entry)) (now (places .entry))) ⌝ }
+    ensures { λ _. ⌜ marksIn (now (kinds .exit)) (now (places .exit)) ≡ marksAfter (gateFrom (now (forms .entry)) (now (fields .entry)) (now (names .entry)) (now (fixed .entry)) (now (rules .entry)) (now (values .entry)) (now (texts .entry))) scope (standing (now (a .entry)) (now (b .entry)) (now (c .entry)) (now (stand .entry))) (length (now (work .entry))) (marksIn (now (kinds .entry)) (now (places .entry))) ⌝ }
+    ensures { λ _. ⌜ now (work .exit) ≡ workAfterwards (gateFrom (now (forms .entry)) (now (fields .entry)) (now (names .entry)) (now (fixed .entry)) (now (rules .entry)) (now (values .entry)) (now (texts .entry))) scope (standing (now (a .entry)) (now (b .entry)) (now (c .entry)) (now (stand .entry))) (marksIn (now (kinds .entry)) (now (places .entry))) (now (work .entry)) ⌝ }
+{
+    let n = forms.len() / 2;
+    if 32 < n {
+        return false;
+    }
+    if !has_lists(n, rules, kinds, places) {
+        return false;
+    }
+    let mut starts = [0usize; 33];
+    let limit = work.len();
+    if fill_starts(forms, fields, n, limit, &mut starts) {
+        judge_marks(
+            a,
+            b,
+            c,
+            stand,
+            forms,
+            fields,
+            names,
+            fixed,
+            rules,
+            values,
+            texts,
+            scope,
+            &starts,
+            work,
+            kinds,
+            places,
+        );
+        return true;
+    }
+    false
+}

@@ -1,0 +1,45 @@
+-- The marks of a set, however many: document 01 has them as a board of 81, "each a kind and a place".
+use Prim.Native.Nat.{ℕ, zero, suc, _+_}
+use mathlib.Core.Bool.{Bool, cond}
+use mathlib.Core.List.{List, [], _∷_, _++_}
+use lib.ListN.{length, getD}
+use lib.Dec.{eqb}
+use Rattle.mark_numbers.specs.declared.Mark.{Mark}
+
+-- a list by what stands at each of its first n places
+unfoldable pub listOf : (ℕ → ℕ) → ℕ → List ℕ
+listOf f zero = []
+listOf f (suc n) = listOf f n ++ (f n ∷ [])
+
+-- ---- Marks as lists, one for each number of a mark
+pub record Marks : Type 0 where
+  pub kinds : List ℕ
+  pub places : List ℕ
+
+abbrev pub marksIn : List ℕ → List ℕ → Marks
+marksIn kinds places = record { kinds = kinds; places = places }
+
+-- the marks by their numbers, and a mark by its number
+unfoldable pub marksFrom : ℕ → (ℕ → Mark) → Marks
+marksFrom n mark = marksIn (listOf (λ m. mark m .kind) n) (listOf (λ m. mark m .place) n)
+
+unfoldable pub markIn : Marks → ℕ → Mark
+markIn marks m = record { kind = getD (marks .kinds) m 0; place = getD (marks .places) m 0 }
+
+-- "Kind 0 place 0: holds." "Kind 2 place 0: not judged"
+abbrev pub holds : Mark
+holds = record { kind = 0; place = 0 }
+
+abbrev pub notJudged : Mark
+notJudged = record { kind = 2; place = 0 }
+
+unfoldable pub freshMarks : ℕ → Marks
+freshMarks n = marksFrom n (λ m. notJudged)
+
+-- how many of the first m marks don't hold; "The set is accepted if all .. hold."
+unfoldable pub faultsUpTo : List ℕ → ℕ → ℕ
+faultsUpTo kinds zero = 0
+faultsUpTo kinds (suc m) = cond (eqb (getD kinds m 0) 0) (faultsUpTo kinds m) (faultsUpTo kinds m + 1)
+
+unfoldable pub faultsIn : List ℕ → ℕ
+faultsIn kinds = faultsUpTo kinds (length kinds)

@@ -1,0 +1,11 @@
+-- One name opens every definition of this crate and of those below it that a text takes, for tests that compute: a definition
+-- that is added here asks nothing of those above.
+use mathlib.Core.Bool.{Bool, true}
+use Rattle.table_rows.specs.Ascii.{codes}
+use Rattle.bundle_bytes.specs.Pieces.{joined}
+use Rattle.mark_numbers.proofs.Opens.{open-marks}
+use Rattle.report.specs.Report.{digitsIn, decimal, counted, lineOf, lineIn, linesUpTo, isAccepted, lastLine, boardText, refusalText, reportOf, isPrinted, textIn}
+
+unfoldable pub open-report : Bool
+unfolding open-marks codes joined digitsIn decimal counted lineOf lineIn linesUpTo isAccepted lastLine boardText refusalText reportOf isPrinted textIn
+open-report = true

@@ -1,0 +1,9 @@
+-- One name opens every definition of this crate and of those below it, for tests that compute: a definition that is
+-- added here asks nothing of those above.
+use mathlib.Core.Bool.{Bool, true}
+use Rattle.table_rows.proofs.Opens.{open-table-rows}
+use Rattle.rule_shape.specs.Rule.{firstOf, secondOf, reads, rowOf, shapesOf, ruleOf, ruleFrom, rulesFrom, rulesIn}
+
+unfoldable pub open-shapes : Bool
+unfolding open-table-rows firstOf secondOf reads rowOf shapesOf ruleOf ruleFrom rulesFrom rulesIn
+open-shapes = true

@@ -1,0 +1,71 @@
+-- What holds of the schedule gate's rules, computed once over all of them.
+-- Assumes nothing.
+use Prim.Native.Nat.{ℕ}
+use mathlib.Core.Path.{_≡_, refl}
+use mathlib.Core.Bool.{Bool, true, _&&_}
+use mathlib.Core.List.{List, [], _∷_}
+use lib.ListN.{length}
+use lib.Dec.{ltb, leb}
+use Rattle.table_fields.specs.Fields.{fieldsOf}
+use Rattle.table_fields.specs.Flat.{firstValue}
+use Rattle.table_rows.proofs.Laws.{all}
+use Rattle.rule_when.specs.declared.When.{When}
+use Rattle.rule_shape.specs.declared.Rule.{Rule}
+use Rattle.rule_shape.specs.declared.Rule.the-variants.{KeyOf, OneOf, NullUnless, GivenIf, GivenUnless, NoneBelow, SomeAbove, Together, LevelRun, ParentGiven, TargetIn, ParentIs}
+use Rattle.rule_shape.specs.Rule.{firstOf, secondOf, rulesIn}
+use Rattle.rule_shape.proofs.Laws.{rows-back}
+use Rattle.schedule_rules.specs.Rules.{rules, ruleRows}
+use Rattle.schedule_rules.proofs.Opens.{open-rows}
+
+-- ---- The rows decode to the rules
+pub rows-decode : rulesIn ruleRows ≡ rules
+unfolding ruleRows
+rows-decode = rows-back rules
+
+-- ---- Every rule reads files from 1 to 19
+isTable : ℕ → Bool
+isTable file = leb 1 file && leb file 19
+
+unfoldable pub isWithin : Rule → Bool
+unfolding isTable
+isWithin rule = isTable (firstOf rule) && isTable (secondOf rule)
+
+pub rules-within : all isWithin rules ≡ true
+unfolding open-rows all isWithin
+rules-within = refl
+
+-- ---- Every name is one of document 002's. A field's name that is misspelt stands for the count of its table's fields, which
+-- is the number of none of them, and an enumeration value's for the count of all values, which is the number of none.
+areFields : ℕ → List ℕ → Bool
+areFields file = all (λ field. ltb field (length (fieldsOf file)))
+
+areValues : List ℕ → Bool
+areValues = all (λ v. ltb v (firstValue 11))
+
+-- a condition that names no field, or no values, has 0 there
+isCondition : ℕ → When → Bool
+isCondition file when = areFields file (when .field ∷ []) && areValues (when .first ∷ when .second ∷ [])
+
+-- a run ends behind the field that is named last
+isRun : ℕ → ℕ → ℕ → Bool
+isRun file from to = ltb from to && leb to (length (fieldsOf file))
+
+unfoldable pub isNamed : Rule → Bool
+unfolding areFields areValues isCondition isRun
+isNamed (KeyOf file key) = areFields file (key .a ∷ key .b ∷ key .c ∷ [])
+isNamed (OneOf file field first count) = areFields file (field ∷ []) && ltb 0 count
+isNamed (NullUnless file field when) = areFields file (field ∷ []) && isCondition file when
+isNamed (GivenIf file field when) = areFields file (field ∷ []) && isCondition file when
+isNamed (GivenUnless file field when) = areFields file (field ∷ []) && isCondition file when
+isNamed (NoneBelow file from to) = isRun file from to
+isNamed (SomeAbove file from to) = isRun file from to
+isNamed (Together file from to) = isRun file from to
+isNamed (LevelRun file level) = areFields file (level ∷ [])
+isNamed (ParentGiven file parent level id) = areFields file (parent ∷ level ∷ id ∷ [])
+isNamed (TargetIn file field when other id) = areFields file (field ∷ []) && (isCondition file when && areFields other (id ∷ []))
+isNamed (ParentIs file parent level id other otherID otherType value) =
+    areFields file (parent ∷ level ∷ id ∷ []) && (areFields other (otherID ∷ otherType ∷ []) && areValues (value ∷ []))
+
+pub all-named : all isNamed rules ≡ true
+unfolding open-rows all isNamed
+all-named = refl

@@ -1,0 +1,10 @@
+pub mod Rows
+pub mod Objects
+pub mod Record
+pub mod Faults
+pub mod Walk
+pub mod Table
+pub mod Typed
+pub mod Cells
+pub mod Unique
+pub mod Cases

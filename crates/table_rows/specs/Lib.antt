@@ -1,0 +1,4 @@
+pub mod Ascii
+pub mod Types
+pub mod Rows
+pub mod Run
