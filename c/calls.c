@@ -1,12 +1,30 @@
-/* Calls every function of the gate with right and with wrong arguments, and checks each answer: a test, and a list of what
- * a caller meets. For each folder on the command line, which holds a set, it also makes every call in a lent workspace, on
- * a small stack, beside the call that owns its memory. Prints a line for each answer that is not the expected one, the
+/* Makes every call of the gate with right and with wrong arguments and checks each answer: a test, and a list of what a caller
+ * meets. For each folder on the command line, which holds a set, it also builds the set file by file on a small stack, by the
+ * calls that get a workspace and by those that are lent one. Prints a line for each answer that is not the expected one, the
  * stack that was used, and then how many answers there were of each. */
 #define _XOPEN_SOURCE 700
-#include "knotsaddle.h"
 #include <stdio.h>
+#include <stdlib.h>
 #include <string.h>
 #include <ucontext.h>
+
+/* The memory of the calls that get a workspace: it can be made to fail, and is counted. */
+static int no_memory, out_on_loan;
+
+static void *get(size_t size) {
+    if (no_memory) return NULL;
+    out_on_loan++;
+    return malloc(size);
+}
+
+static void give_back(void *memory) {
+    out_on_loan--;
+    free(memory);
+}
+
+#define KNOTSADDLE_MALLOC get
+#define KNOTSADDLE_FREE give_back
+#include "knotsaddle.h"
 
 static int passed, failed;
 
@@ -22,235 +40,422 @@ static void expect(const char *what, size_t expected, size_t got) {
     printf("%s: %s: expected %zu, got %zu\n", at_hand, what, expected, got);
 }
 
-static uint8_t bundle[164], out[1000];
-static uint32_t kinds[KNOTSADDLE_MARKS];
-static size_t places[KNOTSADDLE_MARKS];
+static void expect_text(const char *what, const char *expected, const char *got) {
+    expect(what, 0, strcmp(expected, got) != 0);
+}
+
+/* ---- What the calls are handed */
+
+#define HELLO_AT (KNOTSADDLE_EMPTY_BUNDLE + 5)
+
+static uint8_t bundle[KNOTSADDLE_EMPTY_BUNDLE], out[1000], large[KNOTSADDLE_LARGEST_BUNDLE];
 static const uint8_t hello[] = {'h', 'e', 'l', 'l', 'o'};
-
-static void judging(void) {
-    expect("judge", 0, knotsaddle_judge(bundle, 164, kinds, 81, places, 81));
-    expect("its mark 0", 21, kinds[0]);
-    expect("its mark 37", 2, kinds[37]);
-    expect("its mark 80", 0, kinds[80]);
-    expect("judge, no bundle", 1, knotsaddle_judge(bundle, 0, kinds, 81, places, 81));
-    expect("judge, 80 kinds", KNOTSADDLE_WRONG_LENGTH, knotsaddle_judge(bundle, 164, kinds, 80, places, 81));
-    expect("judge, 80 places", KNOTSADDLE_WRONG_LENGTH, knotsaddle_judge(bundle, 164, kinds, 81, places, 80));
-    expect("judge again", 0, knotsaddle_judge(bundle, 164, kinds, 81, places, 81));
-}
-
-static void changing(void) {
-    size_t size[1] = {77};
-    memset(out, 9, sizeof out);
-    kinds[20] = 7;
-    expect("make", 0, knotsaddle_make(bundle, 164, kinds, 81, places, 81, 19, 1, hello, 5, out, 1000, size, 1));
-    expect("its length", 169, size[0]);
-    expect("its file", 0, (size_t)memcmp(out + 164, hello, 5));
-    expect("the byte behind it", 9, out[169]);
-    expect("its mark 19", 11, kinds[19]);
-    expect("its mark 64", 2, kinds[64]);
-    expect("a mark that does not read it", 7, kinds[20]);
-    expect("make, output too short", 5, knotsaddle_make(bundle, 164, kinds, 81, places, 81, 19, 1, hello, 5, out, 168, size, 1));
-    expect("its length", 0, size[0]);
-    expect("make, no list for the length", KNOTSADDLE_WRONG_LENGTH,
-           knotsaddle_make(bundle, 164, kinds, 81, places, 81, 19, 1, hello, 5, out, 1000, size, 0));
-    expect("try, neither new bytes nor withdrawal", KNOTSADDLE_WRONG_PRESENT,
-           knotsaddle_try(bundle, 164, kinds, 81, places, 81, 19, 2, hello, 5));
-    expect("try, file 20", 4, knotsaddle_try(bundle, 164, kinds, 81, places, 81, 20, 1, hello, 5));
-    expect("the mark it leaves", 11, kinds[19]);
-    expect("try, withdrawal", 0, knotsaddle_try(bundle, 164, kinds, 81, places, 81, 19, 0, hello, 5));
-    expect("its mark 19", 0, kinds[19]);
-}
-
-static void asking(void) {
-    size_t place[2] = {5, 6};
-    expect("a file that is there", 0, knotsaddle_file(out, 169, 19, place, 2));
-    expect("its start", 164, place[0]);
-    expect("its length", 5, place[1]);
-    expect("an omitted file", 1, knotsaddle_file(out, 169, 18, place, 2));
-    expect("its start", 0, place[0]);
-    expect("file 20", 204, knotsaddle_file(out, 169, 20, place, 2));
-    expect("a list of 1 for the place", KNOTSADDLE_WRONG_LENGTH, knotsaddle_file(out, 169, 18, place, 1));
-}
-
-static void printing(void) {
-    uint8_t text[KNOTSADDLE_REPORT_ROOM];
-    static const char refused[] = "bundle 3\n";
-    expect("report, too short", 0, knotsaddle_report(0, kinds, 81, places, 81, text, 4095));
-    expect("report of a refusal", 9, knotsaddle_report(3, kinds, 81, places, 81, text, 4096));
-    expect("its text", 0, (size_t)memcmp(text, refused, 9));
-}
-
-/* ---- the calls in a lent workspace: by small cases */
-
-#define WORK work, KNOTSADDLE_WORKSPACE
-#define TOO_SHORT work, KNOTSADDLE_WORKSPACE - 1
+static knotsaddle_board board;
 
 /* One number more than is needed. */
 static uint32_t work[KNOTSADDLE_WORKSPACE + 1];
 
-static void fill(void) {
-    memset(work, 0xff, sizeof work);
-}
-
-/* How many numbers of the workspace are not as `fill` left them. */
-static size_t touched(void) {
-    size_t count = 0;
-    for (size_t i = 0; i <= KNOTSADDLE_WORKSPACE; i++) count += work[i] != 0xffffffff;
-    return count;
-}
-
-/* How many marks of the board are not this one. */
-static size_t other_marks(uint32_t kind, size_t place) {
-    size_t count = 0;
-    for (size_t m = 0; m < KNOTSADDLE_MARKS; m++) count += kinds[m] != kind || places[m] != place;
-    return count;
-}
-
-/* How many bytes of the output are not 9. */
-static size_t other_bytes(void) {
-    size_t count = 0;
-    for (size_t i = 0; i < sizeof out; i++) count += out[i] != 9;
-    return count;
-}
+#define TOO_SHORT (KNOTSADDLE_WORKSPACE - 1)
 
 /* A board that no judgement gives. */
 static void hand_board(void) {
     for (size_t m = 0; m < KNOTSADDLE_MARKS; m++) {
-        kinds[m] = 7;
-        places[m] = 8;
+        board.kinds[m] = 7;
+        board.places[m] = 8;
+        board.companions[m] = 9;
     }
 }
 
-static void judging_in(void) {
-    fill();
-    hand_board();
-    expect("judge_in, 80 kinds", KNOTSADDLE_WRONG_LENGTH, knotsaddle_judge_in(bundle, 164, kinds, 80, places, 81, WORK));
-    expect("judge_in, 80 places", KNOTSADDLE_WRONG_LENGTH, knotsaddle_judge_in(bundle, 164, kinds, 81, places, 80, WORK));
-    expect("marks that they write", 0, other_marks(7, 8));
-    expect("judge_in, workspace too short", 14, knotsaddle_judge_in(bundle, 164, kinds, 81, places, 81, TOO_SHORT));
-    expect("its marks other than 'not judged'", 0, other_marks(2, 0));
-    expect("judge_in, workspace too short for no bundle", 14,
-           knotsaddle_judge_in(bundle, 0, kinds, 81, places, 81, TOO_SHORT));
-    expect("judge_in, no bundle", 1, knotsaddle_judge_in(bundle, 0, kinds, 81, places, 81, WORK));
-    expect("what refused judgements write to the workspace", 0, touched());
-    expect("judge_in", 0, knotsaddle_judge_in(bundle, 164, kinds, 81, places, 81, WORK));
-    expect("its mark 0", 21, kinds[0]);
-    expect("its mark 80", 0, kinds[80]);
-    expect("judge_in, workspace longer than it must be", 0,
-           knotsaddle_judge_in(bundle, 164, kinds, 81, places, 81, work, KNOTSADDLE_WORKSPACE + 1));
-    expect("the number behind the cells", 0xffffffff, work[KNOTSADDLE_WORKSPACE]);
-}
-
-static void changing_in(void) {
-    size_t size[1] = {77};
-    fill();
+/* With it an output and a workspace that no call leaves so. */
+static void hand_over(void) {
     hand_board();
     memset(out, 9, sizeof out);
-    expect("try_in, 80 kinds", KNOTSADDLE_WRONG_LENGTH,
-           knotsaddle_try_in(bundle, 164, kinds, 80, places, 81, 19, 1, hello, 5, WORK));
-    expect("try_in, neither new bytes nor withdrawal", KNOTSADDLE_WRONG_PRESENT,
-           knotsaddle_try_in(bundle, 164, kinds, 81, places, 81, 19, 2, hello, 5, TOO_SHORT));
-    expect("try_in, workspace too short", 14,
-           knotsaddle_try_in(bundle, 164, kinds, 81, places, 81, 20, 1, hello, 5, TOO_SHORT));
-    expect("try_in, file 20", 4, knotsaddle_try_in(bundle, 164, kinds, 81, places, 81, 20, 1, hello, 5, WORK));
-    expect("make_in, 80 places", KNOTSADDLE_WRONG_LENGTH,
-           knotsaddle_make_in(bundle, 164, kinds, 81, places, 80, 19, 1, hello, 5, out, 1000, size, 1, WORK));
-    expect("make_in, no list for the length", KNOTSADDLE_WRONG_LENGTH,
-           knotsaddle_make_in(bundle, 164, kinds, 81, places, 81, 19, 1, hello, 5, out, 1000, size, 0, WORK));
-    expect("the length that they write", 77, size[0]);
-    expect("make_in, workspace too short", 14,
-           knotsaddle_make_in(bundle, 164, kinds, 81, places, 81, 19, 1, hello, 5, out, 1000, size, 1, TOO_SHORT));
-    expect("its length", 0, size[0]);
-    expect("make_in, output too short", 5,
-           knotsaddle_make_in(bundle, 164, kinds, 81, places, 81, 19, 1, hello, 5, out, 168, size, 1, WORK));
-    expect("marks that refused changes write", 0, other_marks(7, 8));
-    expect("bytes that they write", 0, other_bytes());
-    expect("what they write to the workspace", 0, touched());
-    expect("make_in", 0, knotsaddle_make_in(bundle, 164, kinds, 81, places, 81, 19, 1, hello, 5, out, 1000, size, 1, WORK));
-    expect("its length", 169, size[0]);
-    expect("its file", 0, (size_t)memcmp(out + 164, hello, 5));
-    expect("the byte behind it", 9, out[169]);
-    expect("its mark 19", 11, kinds[19]);
-    expect("a mark that does not read it", 7, kinds[20]);
-    expect("try_in, withdrawal", 0, knotsaddle_try_in(bundle, 164, kinds, 81, places, 81, 19, 0, hello, 5, WORK));
-    expect("its mark 19", 0, kinds[19]);
+    memset(work, 0xff, sizeof work);
 }
 
-/* ---- the calls in a lent workspace: on whole sets, beside those that own their memory */
+/* How many marks of the board are not this one. */
+static size_t other_marks(uint32_t kind, size_t place, size_t companion) {
+    size_t count = 0;
+    for (size_t m = 0; m < KNOTSADDLE_MARKS; m++) {
+        count += board.kinds[m] != kind || board.places[m] != place || board.companions[m] != companion;
+    }
+    return count;
+}
+
+/* What was written to the board, the output and the workspace, in marks, bytes and numbers. */
+static size_t written(void) {
+    size_t count = other_marks(7, 8, 9);
+    for (size_t i = 0; i < sizeof out; i++) count += out[i] != 9;
+    for (size_t i = 0; i <= KNOTSADDLE_WORKSPACE; i++) count += work[i] != 0xffffffff;
+    return count;
+}
+
+/* ---- The exported calls with lists of wrong lengths; the inline functions never hand over such a list */
+
+#define LISTS(k, p, c) board.kinds, k, board.places, p, board.companions, c
+#define CHANGE(present) 19, present, hello, 5
+
+static void wrong_lists(void) {
+    size_t size[1] = {77}, place[2] = {5, 6};
+    uint32_t present[1] = {3};
+    hand_over();
+    expect("judge, 80 kinds", 100, knotsaddle_judge(bundle, 164, LISTS(80, 81, 81), work, TOO_SHORT));
+    expect("judge, 80 places", 100, knotsaddle_judge(bundle, 164, LISTS(81, 80, 81), work, TOO_SHORT));
+    expect("judge, 80 companions", 100, knotsaddle_judge(bundle, 0, LISTS(81, 81, 80), work, KNOTSADDLE_WORKSPACE));
+    expect("try, 80 kinds", 100, knotsaddle_try(bundle, 164, LISTS(80, 81, 81), CHANGE(2), size, 1, work, TOO_SHORT));
+    expect("try, 80 places", 100, knotsaddle_try(bundle, 164, LISTS(81, 80, 81), CHANGE(2), size, 1, work, TOO_SHORT));
+    expect("try, 80 companions", 100, knotsaddle_try(bundle, 164, LISTS(81, 81, 80), CHANGE(2), size, 1, work, TOO_SHORT));
+    expect("try, no list for the length", 100, knotsaddle_try(bundle, 164, LISTS(81, 81, 81), CHANGE(2), size, 0, work, TOO_SHORT));
+    expect("make, 80 kinds", 100,
+           knotsaddle_make(bundle, 164, LISTS(80, 81, 81), CHANGE(2), out, 1000, size, 1, work, TOO_SHORT));
+    expect("make, 80 places", 100,
+           knotsaddle_make(bundle, 164, LISTS(81, 80, 81), CHANGE(2), out, 1000, size, 1, work, TOO_SHORT));
+    expect("make, 80 companions", 100,
+           knotsaddle_make(bundle, 164, LISTS(81, 81, 80), CHANGE(2), out, 1000, size, 1, work, TOO_SHORT));
+    expect("make, no list for the length", 100,
+           knotsaddle_make(bundle, 164, LISTS(81, 81, 81), CHANGE(2), out, 1000, size, 0, work, TOO_SHORT));
+    expect("fresh, 80 kinds", 100, knotsaddle_fresh(LISTS(80, 81, 81)));
+    expect("fresh, 80 places", 100, knotsaddle_fresh(LISTS(81, 80, 81)));
+    expect("fresh, 80 companions", 100, knotsaddle_fresh(LISTS(81, 81, 80)));
+    expect("report, 80 kinds", 0, knotsaddle_report(0, LISTS(80, 81, 81), out, 1000));
+    expect("report, 80 companions", 0, knotsaddle_report(3, LISTS(81, 81, 80), large, sizeof large));
+    expect("report, 80 of each", 0, knotsaddle_report(0, LISTS(80, 80, 80), large, sizeof large));
+    expect("file, a list of 2 for whether it is there", 100, knotsaddle_file(bundle, 164, 19, present, 2, place, 2));
+    expect("file, a list of 1 for the place", 100, knotsaddle_file(bundle, 0, 19, present, 1, place, 1));
+    expect("the lengths that they write", 77, size[0]);
+    expect("the places that they write", 3 + 5 + 6, present[0] + place[0] + place[1]);
+    expect("what else they write", 0, written());
+}
+
+/* ---- Refusals, in the order of their tests; nothing is written but the board of a refused judgement */
+
+static void refused_judgements(void) {
+    uint8_t other[KNOTSADDLE_EMPTY_BUNDLE];
+    memcpy(other, bundle, sizeof other);
+    hand_over();
+    expect("judge, workspace too short", 14, knotsaddle_judge_in(bundle, 0, &board, work, TOO_SHORT));
+    expect("its marks other than 'not judged'", 0, other_marks(KNOTSADDLE_NOT_JUDGED, 0, 0));
+    expect("judge, no workspace", 14, knotsaddle_judge_in(bundle, 0, &board, NULL, 0));
+    hand_over();
+    expect("judge, bundle of 163 bytes", 1, knotsaddle_judge_in(bundle, 163, &board, work, KNOTSADDLE_WORKSPACE));
+    expect("its marks other than 'not judged'", 0, other_marks(KNOTSADDLE_NOT_JUDGED, 0, 0));
+    hand_over();
+    expect("judge, null for no bundle", 1, knotsaddle_judge_in(NULL, 0, &board, work, KNOTSADDLE_WORKSPACE));
+    expect("its marks other than 'not judged'", 0, other_marks(KNOTSADDLE_NOT_JUDGED, 0, 0));
+    other[0] = 21;
+    expect("judge, count 21", 2, knotsaddle_judge_in(other, 164, &board, work, KNOTSADDLE_WORKSPACE));
+    other[0] = 20;
+    other[4] = 165;
+    expect("judge, an offset off by one", 3, knotsaddle_judge_in(other, 164, &board, work, KNOTSADDLE_WORKSPACE));
+    hand_board();
+    expect("what they write to the output and the workspace", 0, written());
+}
+
+static uint32_t try_lent(knotsaddle_change change, size_t *size, size_t lent) {
+    return knotsaddle_try_in(bundle, 164, &board, change, size, work, lent);
+}
+
+static uint32_t make_lent(knotsaddle_change change, size_t room, size_t *size, size_t lent) {
+    return knotsaddle_make_in(bundle, 164, &board, change, out, room, size, work, lent);
+}
+
+static void refused_changes(void) {
+    size_t size = 77;
+    knotsaddle_change well = knotsaddle_put(19, hello, 5), two = well;
+    knotsaddle_change past = knotsaddle_put(20, hello, 5), most = knotsaddle_put(3, large, sizeof large);
+    two.present = 2;
+    hand_over();
+    expect("try, neither new bytes nor withdrawal", 101, try_lent(two, &size, TOO_SHORT));
+    expect("try, workspace too short", 14, try_lent(past, &size, TOO_SHORT));
+    expect("try, no workspace", 14, knotsaddle_try_in(bundle, 164, &board, well, &size, NULL, 0));
+    expect("try, no bundle", 1, knotsaddle_try_in(NULL, 0, &board, past, &size, work, KNOTSADDLE_WORKSPACE));
+    expect("try, file 20", 4, try_lent(past, &size, KNOTSADDLE_WORKSPACE));
+    expect("try, new bundle too long", 6, try_lent(most, &size, KNOTSADDLE_WORKSPACE));
+    expect("make, neither new bytes nor withdrawal", 101, make_lent(two, 168, &size, TOO_SHORT));
+    expect("make, workspace too short", 14, make_lent(past, 168, &size, TOO_SHORT));
+    expect("make, no workspace", 14, knotsaddle_make_in(bundle, 164, &board, well, out, 1000, &size, NULL, 0));
+    expect("make, file 20", 4, make_lent(past, 168, &size, KNOTSADDLE_WORKSPACE));
+    expect("make, new bundle too long", 6, make_lent(most, 168, &size, KNOTSADDLE_WORKSPACE));
+    expect("make, output too short", 5, make_lent(well, 168, &size, KNOTSADDLE_WORKSPACE));
+    expect("make, no output", 5,
+           knotsaddle_make_in(bundle, 164, &board, well, NULL, 0, &size, work, KNOTSADDLE_WORKSPACE));
+    expect("the length that they write", 77, size);
+    expect("what else they write", 0, written());
+}
+
+static void no_workspace_to_get(void) {
+    size_t size = 77;
+    hand_over();
+    no_memory = 1;
+    expect("judge without memory", KNOTSADDLE_NO_MEMORY, knotsaddle_judge_bundle(bundle, 0, &board));
+    expect("try without memory", KNOTSADDLE_NO_MEMORY,
+           knotsaddle_try_change(bundle, 164, &board, knotsaddle_withdraw(20), &size));
+    expect("make without memory", KNOTSADDLE_NO_MEMORY,
+           knotsaddle_make_change(bundle, 164, &board, knotsaddle_withdraw(20), out, 1000, &size));
+    no_memory = 0;
+    expect("the length that they write", 77, size);
+    expect("what else they write", 0, written());
+}
+
+/* ---- Calls that are not refused */
+
+static void small_cases(void) {
+    size_t size = 77, made = 77;
+    hand_over();
+    expect("judge", 0, knotsaddle_judge_in(bundle, 164, &board, work, KNOTSADDLE_WORKSPACE + 1));
+    expect("its mark 0", 21, board.kinds[0]);
+    expect("its mark 37", 2, board.kinds[37]);
+    expect("its mark 80", 0, board.kinds[80]);
+    expect("the number behind the workspace", 0xffffffff, work[KNOTSADDLE_WORKSPACE]);
+    hand_over();
+    expect("make", 0, make_lent(knotsaddle_put(19, hello, 5), 1000, &made, KNOTSADDLE_WORKSPACE));
+    expect("its length", HELLO_AT, made);
+    expect("its file", 0, memcmp(out + KNOTSADDLE_EMPTY_BUNDLE, hello, 5) != 0);
+    expect("the byte behind it", 9, out[HELLO_AT]);
+    expect("its mark 19", 11, board.kinds[19]);
+    expect("its mark 64", 2, board.kinds[64]);
+    expect("a mark that does not read it", 7 + 8 + 9, board.kinds[20] + board.places[20] + board.companions[20]);
+    expect("try", 0, try_lent(knotsaddle_put(19, hello, 5), &size, KNOTSADDLE_WORKSPACE));
+    expect("the length that it would have", HELLO_AT, size);
+    expect("try, without asking for the length", 0, try_lent(knotsaddle_put(19, hello, 5), NULL, KNOTSADDLE_WORKSPACE));
+    expect("make, output just long enough", 0, make_lent(knotsaddle_put(19, hello, 5), HELLO_AT, &made, KNOTSADDLE_WORKSPACE));
+}
+
+/* A withdrawal has no bytes: null for them, and any bytes that are not to be read. */
+static void withdrawals(void) {
+    uint8_t filled[HELLO_AT];
+    size_t size = 77;
+    knotsaddle_change none = knotsaddle_withdraw(19), some = knotsaddle_put(19, hello, 5);
+    some.present = 0;
+    memcpy(filled, out, sizeof filled);
+    expect("withdraw, null for the bytes", 0, knotsaddle_try_change(filled, sizeof filled, &board, none, &size));
+    expect("the length that it would have", KNOTSADDLE_EMPTY_BUNDLE, size);
+    expect("its mark 19", 0, board.kinds[19]);
+    expect("withdraw, with bytes", 0, knotsaddle_make_change(filled, sizeof filled, &board, some, out, 1000, &size));
+    expect("its length", KNOTSADDLE_EMPTY_BUNDLE, size);
+    expect("what it makes", 0, memcmp(out, bundle, sizeof bundle) != 0);
+    expect("a file of no bytes, null for them", 0,
+           knotsaddle_make_change(filled, sizeof filled, &board, knotsaddle_put(19, NULL, 0), out, 1000, &size));
+    expect("its length", KNOTSADDLE_EMPTY_BUNDLE, size);
+    expect("its offset", KNOTSADDLE_EMPTY_BUNDLE, out[4 + 8 * 19]);
+    expect("its mark 19", 11, board.kinds[19]);
+}
+
+static uint32_t try_resources(const char *text) {
+    return knotsaddle_try_change(bundle, 164, &board, knotsaddle_put(16, (const uint8_t *)text, strlen(text)), NULL);
+}
+
+/* Two resources with one ID: the second record breaks the key, and the first is its companion. A file's own mark names the
+ * record in which the fault stands, or none. */
+static void companions(void) {
+    static const char twice[] = "[{\"ID\":\"R1\",\"Name\":\"Fitter\",\"ElementOfCostID\":\"LABOR\"},"
+                                "{\"ID\":\"r1\",\"Name\":\"Rigger\",\"ElementOfCostID\":\"LABOR\"}]";
+    static const char unknown[] = "[{\"ID\":\"R1\",\"Name\":\"Fitter\",\"ElementOfCostID\":\"LABOR\"},{\"id\":1}]";
+    static const char absent[] = "[{}]";
+    knotsaddle_fresh_board(&board);
+    expect("a key twice", 0, try_resources(twice));
+    expect("its kind", 1, board.kinds[32]);
+    expect("its place", 2, board.places[32]);
+    expect("its companion", 1, board.companions[32]);
+    expect("an unknown name", 0, try_resources(unknown));
+    expect("its kind", 13, board.kinds[16]);
+    expect("its place", 56, board.places[16]);
+    expect("its companion", 2, board.companions[16]);
+    expect("an absent field", 0, try_resources(absent));
+    expect("its kind", 19, board.kinds[16]);
+    expect("its companion", 0, board.companions[16]);
+}
+
+static void asking(void) {
+    uint32_t present[1] = {3};
+    size_t place[2] = {5, 6}, size = 0;
+    knotsaddle_part part = {3, NULL, 6};
+    knotsaddle_make_change(bundle, 164, &board, knotsaddle_put(19, hello, 5), out, 1000, &size);
+    expect("file 20", 4, knotsaddle_file(out, HELLO_AT, 20, present, 1, place, 2));
+    expect("a file of no bundle", 1, knotsaddle_file(out, 163, 19, present, 1, place, 2));
+    expect("a file of a bundle that ends early", 3, knotsaddle_file(out, HELLO_AT - 1, 19, present, 1, place, 2));
+    expect("the places that they write", 3 + 5 + 6, present[0] + place[0] + place[1]);
+    expect("file 20 as a part", 4, knotsaddle_file_part(out, HELLO_AT, 20, &part));
+    expect("null for no bundle", 1, knotsaddle_file_part(NULL, 0, 19, &part));
+    expect("the part that they write", 3 + 6, part.present + part.length);
+    expect("a file that is there", 0, knotsaddle_file(out, HELLO_AT, 19, present, 1, place, 2));
+    expect("that it is", 1, present[0]);
+    expect("its start", KNOTSADDLE_EMPTY_BUNDLE, place[0]);
+    expect("its length", 5, place[1]);
+    expect("it as a part", 0, knotsaddle_file_part(out, HELLO_AT, 19, &part));
+    expect("that it is there", 1, part.present);
+    expect("its bytes", 0, part.length != 5 || memcmp(part.bytes, hello, 5) != 0);
+    expect("an omitted file", 0, knotsaddle_file(out, HELLO_AT, 18, present, 1, place, 2));
+    expect("that it is", 0, present[0]);
+    expect("its start and length", 0, place[0] + place[1]);
+    expect("it as a part", 0, knotsaddle_file_part(out, HELLO_AT, 18, &part));
+    expect("that it is omitted", 0, part.present + part.length);
+}
+
+static void empty_bundle(void) {
+    uint8_t made[KNOTSADDLE_EMPTY_BUNDLE + 1];
+    size_t other = 0;
+    memset(made, 9, sizeof made);
+    expect("the bundle with no files, room for 163 bytes", 0, knotsaddle_empty(made, 163));
+    for (size_t i = 0; i < sizeof made; i++) other += made[i] != 9;
+    expect("what is written", 0, other);
+    expect("the bundle with no files", KNOTSADDLE_EMPTY_BUNDLE, knotsaddle_empty(made, sizeof made));
+    expect("its bytes", 0, memcmp(made, bundle, sizeof bundle) != 0);
+    expect("the byte behind it", 9, made[KNOTSADDLE_EMPTY_BUNDLE]);
+}
+
+/* The example of docs/BUNDLE.md: `[]` as file 16 and `[{}]` as file 19, 170 bytes. */
+static void example_of_the_layout(void) {
+    static const uint8_t from_84[] = {0xa4, 0, 0, 0, 2, 0, 0, 0, 0, 0, 0, 0, 0, 0, 0, 0, 0, 0, 0, 0, 0, 0, 0, 0,
+                                      0xa6, 0, 0, 0, 4, 0, 0, 0, '[', ']', '[', '{', '}', ']'};
+    uint8_t first[KNOTSADDLE_EMPTY_BUNDLE + 2];
+    size_t size = 0;
+    knotsaddle_fresh_board(&board);
+    knotsaddle_make_change(bundle, 164, &board, knotsaddle_put(16, (const uint8_t *)"[]", 2), first, sizeof first, &size);
+    knotsaddle_make_change(first, size, &board, knotsaddle_put(19, (const uint8_t *)"[{}]", 4), out, 1000, &size);
+    expect("the example's length", 170, size);
+    expect("its first bytes", 0, memcmp(out, bundle, 0x84) != 0);
+    expect("its last bytes", 0, memcmp(out + 0x84, from_84, sizeof from_84) != 0);
+}
+
+static void boards(void) {
+    hand_over();
+    knotsaddle_fresh_board(&board);
+    expect("a fresh board's marks other than 'not judged'", 0, other_marks(KNOTSADDLE_NOT_JUDGED, 0, 0));
+    expect("its faults", 81, knotsaddle_faults(board.kinds, 81));
+    expect("a fresh board is accepted", 0, (size_t)knotsaddle_is_accepted(&board));
+    memset(board.kinds, 0, sizeof board.kinds);
+    expect("a board that holds is accepted", 1, (size_t)knotsaddle_is_accepted(&board));
+    board.kinds[80] = 1;
+    expect("with one fault", 0, (size_t)knotsaddle_is_accepted(&board));
+    expect("its faults", 1, knotsaddle_faults(board.kinds, 81));
+    expect("faults of no marks", 0, knotsaddle_faults(board.kinds, 0));
+}
+
+/* ---- Texts */
+
+static void reports(void) {
+    char text[KNOTSADDLE_REPORT_ROOM];
+    static const char omitted[] =
+        "marks 81\n0 21 0 0\n1 21 0 0\n3 21 0 0\n36 2 0 0\n37 2 0 0\n65 2 0 0\n66 2 0 0\nrefused 7\n";
+    memset(text, 9, sizeof text);
+    expect("report, room for one byte less", 0,
+           knotsaddle_report(3, LISTS(81, 81, 81), (uint8_t *)text, KNOTSADDLE_REPORT_ROOM - 1));
+    expect("what is written", 9, (size_t)text[0]);
+    expect("report of a refusal", 9, knotsaddle_report(3, LISTS(81, 81, 81), (uint8_t *)text, KNOTSADDLE_REPORT_ROOM));
+    expect("the byte behind it", 9, (size_t)text[9]);
+    expect("report of a refusal as a text", 9, knotsaddle_report_text(3, &board, text));
+    expect_text("its text", "bundle 3\n", text);
+    knotsaddle_judge_bundle(bundle, 164, &board);
+    expect("report of a board", strlen(omitted), knotsaddle_report_text(0, &board, text));
+    expect_text("its text", omitted, text);
+    for (size_t m = 0; m < KNOTSADDLE_MARKS; m++) {
+        board.kinds[m] = UINT32_MAX;
+        board.places[m] = board.companions[m] = SIZE_MAX;
+    }
+    expect("the longest report", 4546, knotsaddle_report_text(0, &board, text));
+}
+
+static void names(void) {
+    char name[KNOTSADDLE_NAME_ROOM];
+    size_t longest = 0;
+    memset(name, 9, sizeof name);
+    expect("the name of file 9 without room", 0, knotsaddle_file_name(9, (uint8_t *)name, 9));
+    expect("what is written", 9, (size_t)name[0]);
+    expect("the name of file 9", 10, knotsaddle_file_name(9, (uint8_t *)name, 10));
+    expect("the byte behind it", 9, (size_t)name[10]);
+    expect("the name of file 9 as a text", 10, knotsaddle_name_of_file(9, name));
+    expect_text("its text", "Tasks.json", name);
+    for (size_t file = 0; file < KNOTSADDLE_FILES; file++) {
+        size_t length = knotsaddle_name_of_file(file, name);
+        expect("a file without a name", 0, length == 0);
+        if (length > longest) longest = length;
+    }
+    expect("the longest name and its zero byte", KNOTSADDLE_NAME_ROOM, longest + 1);
+    expect("the name of file 20", 0, knotsaddle_name_of_file(20, name));
+    expect_text("its text", "", name);
+}
+
+static void words(void) {
+    static const uint32_t refusals[] = {1, 2, 3, 4, 5, 6, 14, 100, 101, 102};
+    expect_text("mark 0 is about", "FileType.txt: the file itself", knotsaddle_about_mark(0));
+    expect_text("mark 32 is about", "Resources: no two records with the same ID", knotsaddle_about_mark(32));
+    expect_text("mark 80 is about", "TaskOutlineStructure: the parent is a SUMMARY task in Tasks", knotsaddle_about_mark(80));
+    expect_text("mark 81 is about", "", knotsaddle_about_mark(81));
+    for (size_t i = 0; i < sizeof refusals / sizeof refusals[0]; i++) {
+        expect("a refusal without words", 0, strlen(knotsaddle_in_words(refusals[i])) == 0);
+    }
+    expect_text("4 in words", "the file number is over 19", knotsaddle_in_words(4));
+    expect_text("0 in words", "", knotsaddle_in_words(0));
+    expect_text("7 in words", "", knotsaddle_in_words(7));
+}
+
+/* ---- Whole sets, on a small stack: by the calls that get a workspace, and by those that are lent one */
 
 #define ROOM 131072
 
-/* The files of a set, in document 01's order. */
-static const char *const names[KNOTSADDLE_FILES] = {
-    "FileType.txt",
-    "DatasetMetadata.json",
-    "SourceSoftwareMetadata.json",
-    "ProjectScheduleData.json",
-    "ProjectCustomFieldDefinitions.json",
-    "ProjectCustomFieldValues.json",
-    "Calendars.json",
-    "CalendarWorkshifts.json",
-    "CalendarExceptions.json",
-    "Tasks.json",
-    "TaskScheduleData.json",
-    "TaskCustomFieldDefinitions.json",
-    "TaskCustomFieldValues.json",
-    "TaskConstraints.json",
-    "TaskRelationships.json",
-    "TaskOutlineStructure.json",
-    "Resources.json",
-    "ResourceCustomFieldDefinitions.json",
-    "ResourceCustomFieldValues.json",
-    "ResourceAssignments.json",
-};
-
-/* What a call answers and leaves, without a gap between the parts. */
+/* What a call answers and leaves. */
 struct left {
-    size_t places[KNOTSADDLE_MARKS], size[1];
-    uint32_t kinds[KNOTSADDLE_MARKS], answer;
+    knotsaddle_board board;
+    size_t size;
+    uint32_t answer;
     uint8_t out[ROOM];
 };
 
-/* By the call that owns its memory, and by the other. */
+/* By the call that gets a workspace, and by the one that is lent one. */
 static struct left own, lent;
 
 /* What both are handed. */
 static uint8_t set[ROOM], new_bytes[ROOM];
-static size_t set_length, file, new_length;
-
-#define BOARD(of) (of).kinds, KNOTSADDLE_MARKS, (of).places, KNOTSADDLE_MARKS
-#define OUTPUT(of) (of).out, ROOM, (of).size, 1
+static size_t set_length;
+static knotsaddle_change change;
 
 static void judge(void) {
-    own.answer = knotsaddle_judge(set, set_length, BOARD(own));
+    own.answer = knotsaddle_judge_bundle(set, set_length, &own.board);
 }
 
 static void judge_in(void) {
-    lent.answer = knotsaddle_judge_in(set, set_length, BOARD(lent), WORK);
+    lent.answer = knotsaddle_judge_in(set, set_length, &lent.board, work, KNOTSADDLE_WORKSPACE);
 }
 
 static void try(void) {
-    own.answer = knotsaddle_try(set, set_length, BOARD(own), file, 1, new_bytes, new_length);
+    own.answer = knotsaddle_try_change(set, set_length, &own.board, change, &own.size);
 }
 
 static void try_in(void) {
-    lent.answer = knotsaddle_try_in(set, set_length, BOARD(lent), file, 1, new_bytes, new_length, WORK);
+    lent.answer = knotsaddle_try_in(set, set_length, &lent.board, change, &lent.size, work, KNOTSADDLE_WORKSPACE);
 }
 
 static void make(void) {
-    own.answer = knotsaddle_make(set, set_length, BOARD(own), file, 1, new_bytes, new_length, OUTPUT(own));
+    own.answer = knotsaddle_make_change(set, set_length, &own.board, change, own.out, ROOM, &own.size);
 }
 
 static void make_in(void) {
-    lent.answer = knotsaddle_make_in(set, set_length, BOARD(lent), file, 1, new_bytes, new_length, OUTPUT(lent), WORK);
+    lent.answer = knotsaddle_make_in(set, set_length, &lent.board, change, lent.out, ROOM, &lent.size, work,
+                                     KNOTSADDLE_WORKSPACE);
 }
 
-/* The most bytes that each lent call wrote on its stack. */
-static size_t judge_stack, try_stack, make_stack;
+/* The small calls, one after the other. */
+static void others(void) {
+    char text[1];
+    uint32_t present[1];
+    size_t place[2];
+    knotsaddle_fresh_board(&own.board);
+    knotsaddle_report(0, own.board.kinds, KNOTSADDLE_MARKS, own.board.places, KNOTSADDLE_MARKS,
+                      own.board.companions, KNOTSADDLE_MARKS, own.out, ROOM);
+    knotsaddle_faults(own.board.kinds, KNOTSADDLE_MARKS);
+    knotsaddle_file(set, set_length, 9, present, 1, place, 2);
+    knotsaddle_empty(own.out, ROOM);
+    knotsaddle_file_name(9, own.out, ROOM);
+    knotsaddle_file_name(9, (uint8_t *)text, 1);
+}
+
+/* The most bytes that each call wrote on its stack. */
+static size_t judge_stack, try_stack, make_stack, others_stack;
 
 /* Makes a call on a painted stack of its own and sees how far down the paint is gone. The functions of the C library that
- * the call uses were called before, by `judging_in` and `changing_in`: the first call of such a function goes through the
- * loader, which would count here. */
+ * the call uses were called before, by the small cases: the first call of such a function goes through the loader, which
+ * would count here. */
 static void on_small_stack(void (*call)(void), size_t *most) {
     static uint8_t stack[65536];
     static ucontext_t here, there;
@@ -266,21 +471,28 @@ static void on_small_stack(void (*call)(void), size_t *most) {
     if (sizeof stack - left > *most) *most = sizeof stack - left;
 }
 
-/* Makes a call from what `own` holds, and its lent one from the same: 1 if they answer or leave different things, else 0. */
-static size_t differs(void (*call)(void), void (*call_in)(void), size_t *most) {
-    lent = own;
-    call();
-    on_small_stack(call_in, most);
-    return memcmp(&own, &lent, sizeof own) != 0;
+static int same_board(const knotsaddle_board *a, const knotsaddle_board *b) {
+    return memcmp(a->kinds, b->kinds, sizeof a->kinds) == 0 && memcmp(a->places, b->places, sizeof a->places) == 0 &&
+           memcmp(a->companions, b->companions, sizeof a->companions) == 0;
 }
 
-/* Reads file `file` of a set: 1, or 0 if there is none. */
-static int read_new_bytes(const char *folder) {
-    char path[4096];
-    snprintf(path, sizeof path, "%s/%s", folder, names[file]);
+/* Makes a call from what `own` holds, and the lent one from the same: 1 if they answer or leave different things, else 0. */
+static size_t differs(void (*call)(void), void (*call_in)(void), size_t *most) {
+    lent = own;
+    on_small_stack(call, most);
+    on_small_stack(call_in, most);
+    return !(own.answer == lent.answer && own.size == lent.size && same_board(&own.board, &lent.board) &&
+             memcmp(own.out, lent.out, ROOM) == 0);
+}
+
+/* Reads a file of a set as the next change: 1, or 0 if there is none. */
+static int read_file(const char *folder, size_t file) {
+    char path[4096], name[KNOTSADDLE_NAME_ROOM];
+    knotsaddle_name_of_file(file, name);
+    snprintf(path, sizeof path, "%s/%s", folder, name);
     FILE *from = fopen(path, "rb");
     if (from == NULL) return 0;
-    new_length = fread(new_bytes, 1, sizeof new_bytes, from);
+    change = knotsaddle_put(file, new_bytes, fread(new_bytes, 1, sizeof new_bytes, from));
     fclose(from);
     return 1;
 }
@@ -288,54 +500,71 @@ static int read_new_bytes(const char *folder) {
 /* Puts the files of a set one by one into the bundle that has none, each tried and then made, and judges the result. */
 static void whole_set(const char *folder) {
     static struct left before;
-    size_t files = 0, tries = 0, makes = 0;
+    size_t files = 0, tries = 0, makes = 0, lengths = 0, parts = 0;
+    knotsaddle_part part;
     at_hand = folder;
-    fill();
-    memcpy(set, bundle, 164);
-    set_length = 164;
+    memset(work, 0xff, sizeof work);
+    set_length = knotsaddle_empty(set, ROOM);
     expect("the bundle of no files judged otherwise", 0, differs(judge, judge_in, &judge_stack));
-    for (file = 0; file < KNOTSADDLE_FILES; file++) {
-        if (!read_new_bytes(folder)) continue;
+    for (size_t file = 0; file < KNOTSADDLE_FILES; file++) {
+        if (!read_file(folder, file)) continue;
         files++;
         before = own;
         tries += differs(try, try_in, &try_stack);
+        before.size = own.size;
         own = before;
         makes += differs(make, make_in, &make_stack);
         if (own.answer != 0) break;
-        memcpy(set, own.out, own.size[0]);
-        set_length = own.size[0];
+        lengths += own.size != before.size;
+        memcpy(set, own.out, own.size);
+        set_length = own.size;
+        parts += knotsaddle_file_part(set, set_length, file, &part) != 0 || part.present != 1 ||
+                 part.length != change.length || memcmp(part.bytes, new_bytes, part.length) != 0;
     }
     expect("no file", 0, files == 0);
     expect("the last change", 0, own.answer);
     expect("tries that differ", 0, tries);
     expect("changes that differ", 0, makes);
+    expect("lengths other than the tried ones", 0, lengths);
+    expect("files that do not come back", 0, parts);
     before = own;
     expect("judged otherwise in a workspace used before", 0, differs(judge, judge_in, &judge_stack));
-    expect("the changes' board other than the judgement's", 0, memcmp(&own, &before, sizeof own) != 0);
-    fill();
+    expect("the changes' board other than the judgement's", 0, !same_board(&own.board, &before.board));
+    memset(work, 0xff, sizeof work);
     expect("judged otherwise in a filled workspace", 0, differs(judge, judge_in, &judge_stack));
+    on_small_stack(others, &others_stack);
     at_hand = "calls";
 }
 
-static void small_stack(const char *call, size_t most) {
-    printf("%s wrote on %zu bytes of its stack\n", call, most);
-    expect("40,000 or more", 0, most >= 40000);
+static void stack_used(const char *calls, size_t most, size_t limit) {
+    printf("%s wrote on %zu bytes of the stack\n", calls, most);
+    expect("as much as the header says, or more", 0, most >= limit);
 }
 
 int main(int argc, char **argv) {
     bundle[0] = 20;
-    judging();
-    changing();
+    wrong_lists();
+    refused_judgements();
+    refused_changes();
+    no_workspace_to_get();
+    small_cases();
+    withdrawals();
+    companions();
     asking();
-    printing();
-    judging_in();
-    changing_in();
+    empty_bundle();
+    example_of_the_layout();
+    boards();
+    reports();
+    names();
+    words();
     for (int i = 1; i < argc; i++) whole_set(argv[i]);
     if (argc > 1) {
-        small_stack("knotsaddle_judge_in", judge_stack);
-        small_stack("knotsaddle_try_in", try_stack);
-        small_stack("knotsaddle_make_in", make_stack);
+        stack_used("judging", judge_stack, KNOTSADDLE_STACK);
+        stack_used("trying", try_stack, KNOTSADDLE_STACK);
+        stack_used("making", make_stack, KNOTSADDLE_STACK);
+        stack_used("the other calls", others_stack, 2048);
     }
+    expect("workspaces that were not given back", 0, (size_t)out_on_loan);
     printf("%d passed, %d failed\n", passed, failed);
     return failed != 0;
 }

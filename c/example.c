@@ -1,4 +1,5 @@
-/* Judges the bundle in the file named on the command line and prints the report. */
+/* Judges the bundle in the file named on the command line and prints the report, and behind it on the error output what each
+ * mark that does not hold is about. */
 #include <stdio.h>
 
 #include "knotsaddle.h"
@@ -7,9 +8,8 @@
 static uint8_t bundle[KNOTSADDLE_LARGEST_BUNDLE + 1];
 
 int main(int argc, char **argv) {
-    uint32_t kinds[KNOTSADDLE_MARKS];
-    size_t places[KNOTSADDLE_MARKS];
-    uint8_t text[KNOTSADDLE_REPORT_ROOM];
+    knotsaddle_board board;
+    char text[KNOTSADDLE_REPORT_ROOM];
     if (argc != 2) {
         fprintf(stderr, "usage: example BUNDLE\n");
         return 2;
@@ -26,11 +26,18 @@ int main(int argc, char **argv) {
         fprintf(stderr, "%s: cannot be read\n", argv[1]);
         return 2;
     }
-    /* For a small stack: knotsaddle_judge_in, with a static list of KNOTSADDLE_WORKSPACE numbers lent to it. */
-    uint32_t refusal = knotsaddle_judge(bundle, length, kinds, KNOTSADDLE_MARKS, places, KNOTSADDLE_MARKS);
-    size_t written = knotsaddle_report(refusal, kinds, KNOTSADDLE_MARKS, places, KNOTSADDLE_MARKS, text, sizeof text);
-    if (fwrite(text, 1, written, stdout) != written || fflush(stdout) != 0) {
+    knotsaddle_fresh_board(&board);
+    /* For a workspace of the caller's own: knotsaddle_judge_in. */
+    uint32_t refusal = knotsaddle_judge_bundle(bundle, length, &board);
+    if (refusal == KNOTSADDLE_NO_MEMORY) {
+        fprintf(stderr, "%s\n", knotsaddle_in_words(refusal));
         return 2;
+    }
+    knotsaddle_report_text(refusal, &board, text);
+    if (fputs(text, stdout) < 0 || fflush(stdout) != 0) return 2;
+    if (refusal != 0) fprintf(stderr, "%s\n", knotsaddle_in_words(refusal));
+    for (size_t m = 0; refusal == 0 && m < KNOTSADDLE_MARKS; m++) {
+        if (board.kinds[m] != 0) fprintf(stderr, "mark %zu is about %s\n", m, knotsaddle_about_mark(m));
     }
     return 0;
 }

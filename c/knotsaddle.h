@@ -1,29 +1,49 @@
 /* The gate for C: judge a bundle, try a change, make it, ask for a file, print a report.
  *
- * Every list is passed as a pointer and, right behind it, its length: in bytes for a list of bytes, else in elements.
- * The pointer must be valid for that many elements, aligned, and not null (a list of no elements still needs a pointer
- * that is not null), and a list that is written to must not overlap any other list of the same call. The library was
- * checked under these conditions, and can't check them itself. Nothing is allocated and nothing is kept between calls.
+ * There are two layers. The exported calls, first below, take every list as a pointer and a length, and are what other
+ * languages bind to. The inline functions behind them take a board and a change as structs; a C program uses these.
  *
- * knotsaddle_judge, knotsaddle_try and knotsaddle_make need some 3.2 MB of stack. For a small stack each has a counterpart,
- * whose name ends in _in: it does the same in a workspace that is lent to it, and needs some 29 KB. The other calls need
- * less.
+ *     knotsaddle_board board;
+ *     uint32_t refusal = knotsaddle_judge_bundle(bundle, length, &board);
+ *     if (refusal == 0 && knotsaddle_is_accepted(&board)) ...
  *
- * A board is two lists of KNOTSADDLE_MARKS: the kinds and the places of the marks, in document 01's order. Kind 0: the
- * mark holds.
+ * THE BUNDLE (docs/BUNDLE.md) holds up to 20 files. Its numbers have 32 bits, lowest byte first. At byte 0 stands the count,
+ * always 20; at 4 + 8 k the offset of file k and at 8 + 8 k its length, both 0 for an omitted file. The files stand from
+ * byte 164 on in the order of their numbers, without gaps, and the bundle ends with the last. With `[]` as file 16 alone:
  *
- * The answers of knotsaddle_judge, knotsaddle_try and knotsaddle_make, and of the three in a lent workspace:
- *     0    not refused: the bundle was judged
+ *     00000000: 14 00 00 00  00 00 00 00 00 00 00 00  ..     the count, 20; file 0 is omitted, and so are the next
+ *     00000084: a4 00 00 00 02 00 00 00  ..                  file 16: offset 164, length 2; files 17 to 19 are omitted
+ *     000000a4: 5b 5d                                        its bytes
+ *
+ * THE BOARD has 81 marks in document 01's order, each of three numbers. Kind 0: the mark holds. Kind 2: not judged. Any other
+ * kind is a fault. The place says where it is: a byte of the file (marks 0 to 19), or the number of the record, from 1 (marks
+ * 20 to 80). The companion is the record that goes with it: the earliest with the same key (20 to 35), the parent (79, 80), the
+ * one in which the byte stands (kinds 13 to 18 and 30 to 34); 0 if there is none.
+ *
+ * THE ANSWER of a call is 0, or says why it was refused; a number means the same in every call. Tested in this order:
+ *   100    a list has another length than it must have
+ *   101    `present` is neither 1 nor 0
+ *    14    the workspace is shorter than KNOTSADDLE_WORKSPACE numbers
  *     1    the bundle is under 164 or over 1,048,576 bytes
  *     2    its count is not 20
  *     3    an offset, a length or the end breaks the layout
  *     4    the file number is over 19
- *     5    the output is shorter than the new bundle
  *     6    the new bundle would be over 1,048,576 bytes
- *    14    the workspace is shorter than KNOTSADDLE_WORKSPACE numbers; tested before 1 to 6
- *   100    a list has another length than it must have: nothing was written
- *   101    `present` is neither 1 nor 0: nothing was written
- */
+ *     5    the output is shorter than the new bundle
+ * The inline functions never give 100. Those that get a workspace of their own give 102, before all others, where there is no
+ * memory for it. A refused call leaves every list as it was, but for one: a refused judgement, unless by 100 or 102, makes
+ * every mark 'not judged'.
+ *
+ * STACK: judging, trying and making need some 29 KB below the caller's frame, in either layer, and less than KNOTSADDLE_STACK
+ * bytes; a stack that is too small ends in a crash without a word. The other calls need less than 2 KB.
+ *
+ * THREADS: nothing is kept between calls, so any number of threads may call at once, as long as no thread writes to a list
+ * that another one uses.
+ *
+ * POINTERS: the library was checked under these conditions and can't check them itself. A pointer is valid for as many
+ * elements as its length says, and aligned. A list that is written to overlaps no other list of the same call. The exported
+ * calls take no null pointer, not even for a list of no elements; the inline functions take one for bytes, an output or a
+ * workspace of length 0. */
 #ifndef KNOTSADDLE_H
 #define KNOTSADDLE_H
 
@@ -32,81 +52,279 @@
 
 #define KNOTSADDLE_FILES 20
 #define KNOTSADDLE_MARKS 81
-#define KNOTSADDLE_LARGEST_BUNDLE 1048576
-#define KNOTSADDLE_REPORT_ROOM 4096
+/* numbers of 4 bytes in a workspace: 3,178,808 bytes */
 #define KNOTSADDLE_WORKSPACE 794702
+/* bytes: the bundle with no files, the largest one, the room for a report, that for a file's name and the zero byte behind it,
+ * and the stack of a call */
+#define KNOTSADDLE_EMPTY_BUNDLE 164
+#define KNOTSADDLE_LARGEST_BUNDLE 1048576
+#define KNOTSADDLE_REPORT_ROOM 6144
+#define KNOTSADDLE_NAME_ROOM 36
+#define KNOTSADDLE_STACK 32768
+
+#define KNOTSADDLE_NOT_JUDGED 2
+#define KNOTSADDLE_SHORT_WORKSPACE 14
 #define KNOTSADDLE_WRONG_LENGTH 100
 #define KNOTSADDLE_WRONG_PRESENT 101
+#define KNOTSADDLE_NO_MEMORY 102
 
 #ifdef __cplusplus
 extern "C" {
 #endif
 
-/* Judges a bundle in full. The board goes to `kinds` and `places`, of 81 each; after a refusal every mark is 'not
- * judged'. */
+/* ---- The exported calls. `kinds`, `places` and `companions` are a board: lists of KNOTSADDLE_MARKS each. `work` is a
+ * workspace of at least KNOTSADDLE_WORKSPACE numbers, whatever they are. After the answer 0 it holds what was read, after
+ * any other it is as it was; it may be lent again as it is. */
+
+/* Judges a bundle in full: the board gets its marks. */
 uint32_t knotsaddle_judge(const uint8_t *bundle, size_t bundle_length,
                           uint32_t *kinds, size_t kinds_length,
-                          size_t *places, size_t places_length);
+                          size_t *places, size_t places_length,
+                          size_t *companions, size_t companions_length,
+                          uint32_t *work, size_t work_length);
 
-/* Tries a change of a file, 0 to 19: to the new bytes where `present` is 1, to no file where it is 0. `kinds` and
- * `places`, of 81 each, hold the board of the bundle and get the board after the change; after a refusal they are as
- * they were. No bundle is made. */
+/* Tries a change of a file, 0 to 19: to the new bytes where `present` is 1, to no file where it is 0. The board is that of
+ * the bundle and becomes the one after the change. `size`, a list of 1, gets the length that the new bundle would have. No
+ * bundle is made. */
 uint32_t knotsaddle_try(const uint8_t *bundle, size_t bundle_length,
                         uint32_t *kinds, size_t kinds_length,
                         size_t *places, size_t places_length,
+                        size_t *companions, size_t companions_length,
                         size_t file, uint32_t present,
-                        const uint8_t *new_bytes, size_t new_bytes_length);
+                        const uint8_t *new_bytes, size_t new_bytes_length,
+                        size_t *size, size_t size_length,
+                        uint32_t *work, size_t work_length);
 
 /* Makes a change, handed over as to knotsaddle_try. The new bundle goes to the front of `out`, of any length, and its
- * length to `size`, a list of 1; after a refusal `out` is as it was and `size` gets 0. */
+ * length to `size`. The rest of `out` is as before. */
 uint32_t knotsaddle_make(const uint8_t *bundle, size_t bundle_length,
                          uint32_t *kinds, size_t kinds_length,
                          size_t *places, size_t places_length,
+                         size_t *companions, size_t companions_length,
                          size_t file, uint32_t present,
                          const uint8_t *new_bytes, size_t new_bytes_length,
                          uint8_t *out, size_t out_length,
-                         size_t *size, size_t size_length);
+                         size_t *size, size_t size_length,
+                         uint32_t *work, size_t work_length);
 
-/* The three in a lent workspace, `work`, of at least KNOTSADDLE_WORKSPACE numbers, whatever they are; in all else as the
- * calls above. After the answer 0 it holds the cells of the files that were read, after any other it is as it was; it may
- * be lent again as it is. A shorter one is refused as 14, and the other lists are then as after any refusal of that call. */
-uint32_t knotsaddle_judge_in(const uint8_t *bundle, size_t bundle_length,
-                             uint32_t *kinds, size_t kinds_length,
-                             size_t *places, size_t places_length,
-                             uint32_t *work, size_t work_length);
-
-uint32_t knotsaddle_try_in(const uint8_t *bundle, size_t bundle_length,
-                           uint32_t *kinds, size_t kinds_length,
-                           size_t *places, size_t places_length,
-                           size_t file, uint32_t present,
-                           const uint8_t *new_bytes, size_t new_bytes_length,
-                           uint32_t *work, size_t work_length);
-
-uint32_t knotsaddle_make_in(const uint8_t *bundle, size_t bundle_length,
-                            uint32_t *kinds, size_t kinds_length,
-                            size_t *places, size_t places_length,
-                            size_t file, uint32_t present,
-                            const uint8_t *new_bytes, size_t new_bytes_length,
-                            uint8_t *out, size_t out_length,
-                            size_t *size, size_t size_length,
-                            uint32_t *work, size_t work_length);
-
-/* Asks for a file, 0 to 19, by number. Answers 0 if it is there, 1 if it is omitted, 200 and the number of a refusal (201
- * to 204), or 100 where `place` is not a list of 2. `place` gets the start and the length of the file's part of the
- * bundle; both are 0 unless the file is there. */
-uint32_t knotsaddle_file(const uint8_t *bundle, size_t bundle_length,
-                         size_t file,
-                         size_t *place, size_t place_length);
-
-/* Writes the judging program's text to the front of `out`, of at least 4,096 bytes: of a refusal, or with 0 of the board
- * in `kinds` and `places`, of 81 each. Answers the text's length, or 0, with nothing written, where a length is wrong. */
+/* Writes the judging program's text to the front of `out`, of at least KNOTSADDLE_REPORT_ROOM bytes: of a refusal, or with 0
+ * of the board. No zero byte closes it. Answers the text's length, at most 4,546; or 0, with nothing written, where a length
+ * is wrong. */
 size_t knotsaddle_report(uint32_t refusal,
                          const uint32_t *kinds, size_t kinds_length,
                          const size_t *places, size_t places_length,
+                         const size_t *companions, size_t companions_length,
                          uint8_t *out, size_t out_length);
+
+/* Asks for a file by number: 0, or the refusal 1, 2, 3 or 4. `present`, a list of 1, gets 1 if the file is there and 0 if it
+ * is omitted. `place`, a list of 2, gets the start and the length of its part of the bundle, 0 and 0 if it is omitted. */
+uint32_t knotsaddle_file(const uint8_t *bundle, size_t bundle_length,
+                         size_t file,
+                         uint32_t *present, size_t present_length,
+                         size_t *place, size_t place_length);
+
+/* Writes the bundle with no files to the front of `out`. Answers its length, KNOTSADDLE_EMPTY_BUNDLE; or 0, with nothing
+ * written, where `out` is shorter. */
+size_t knotsaddle_empty(uint8_t *out, size_t out_length);
+
+/* Makes every mark of a board 'not judged': 0, or 100. */
+uint32_t knotsaddle_fresh(uint32_t *kinds, size_t kinds_length,
+                          size_t *places, size_t places_length,
+                          size_t *companions, size_t companions_length);
+
+/* How many of these kinds, of any length, are not 0. A set is accepted if none of its 81 is. */
+size_t knotsaddle_faults(const uint32_t *kinds, size_t kinds_length);
+
+/* Writes the name of a file, 0 to 19, to the front of `out`. No zero byte closes it. Answers its length, at most 35; or 0,
+ * with nothing written, for a number over 19 or where `out` is shorter. */
+size_t knotsaddle_file_name(size_t file, uint8_t *out, size_t out_length);
 
 #ifdef __cplusplus
 }
 #endif
+
+/* ---- The same over structs */
+
+typedef struct knotsaddle_board {
+    uint32_t kinds[KNOTSADDLE_MARKS];
+    size_t places[KNOTSADDLE_MARKS];
+    size_t companions[KNOTSADDLE_MARKS];
+} knotsaddle_board;
+
+/* A change of a file: to these bytes where `present` is 1, to no file where it is 0. */
+typedef struct knotsaddle_change {
+    size_t file;
+    uint32_t present;
+    const uint8_t *bytes;
+    size_t length;
+} knotsaddle_change;
+
+/* A file of a bundle: where `present` is 1 its bytes, which stay the bundle's own. */
+typedef struct knotsaddle_part {
+    uint32_t present;
+    const uint8_t *bytes;
+    size_t length;
+} knotsaddle_part;
+
+static inline knotsaddle_change knotsaddle_put(size_t file, const uint8_t *bytes, size_t length) {
+    knotsaddle_change change = {file, 1, bytes, length};
+    return change;
+}
+
+static inline knotsaddle_change knotsaddle_withdraw(size_t file) {
+    knotsaddle_change change = {file, 0, NULL, 0};
+    return change;
+}
+
+/* The exported calls take no null pointer: one for bytes that are none. */
+static inline const uint8_t *knotsaddle_bytes(const uint8_t *bytes) {
+    static const uint8_t none[1] = {0};
+    return bytes != NULL ? bytes : none;
+}
+
+/* ---- Judging, trying, making in a workspace that the caller lends */
+
+static inline uint32_t knotsaddle_judge_in(const uint8_t *bundle, size_t bundle_length, knotsaddle_board *board,
+                                           uint32_t *work, size_t work_length) {
+    uint32_t no_work = 0;
+    return knotsaddle_judge(knotsaddle_bytes(bundle), bundle_length,
+                            board->kinds, KNOTSADDLE_MARKS, board->places, KNOTSADDLE_MARKS,
+                            board->companions, KNOTSADDLE_MARKS,
+                            work != NULL ? work : &no_work, work_length);
+}
+
+/* `size` gets the length that the new bundle would have; null if the caller does not ask for it. */
+static inline uint32_t knotsaddle_try_in(const uint8_t *bundle, size_t bundle_length, knotsaddle_board *board,
+                                         knotsaddle_change change, size_t *size,
+                                         uint32_t *work, size_t work_length) {
+    uint32_t no_work = 0;
+    size_t no_size = 0;
+    return knotsaddle_try(knotsaddle_bytes(bundle), bundle_length,
+                          board->kinds, KNOTSADDLE_MARKS, board->places, KNOTSADDLE_MARKS,
+                          board->companions, KNOTSADDLE_MARKS,
+                          change.file, change.present, knotsaddle_bytes(change.bytes), change.length,
+                          size != NULL ? size : &no_size, 1,
+                          work != NULL ? work : &no_work, work_length);
+}
+
+/* `size` gets the length of the new bundle, which stands at the front of `out`. */
+static inline uint32_t knotsaddle_make_in(const uint8_t *bundle, size_t bundle_length, knotsaddle_board *board,
+                                          knotsaddle_change change, uint8_t *out, size_t out_length, size_t *size,
+                                          uint32_t *work, size_t work_length) {
+    uint32_t no_work = 0;
+    size_t no_size = 0;
+    uint8_t no_out = 0;
+    return knotsaddle_make(knotsaddle_bytes(bundle), bundle_length,
+                           board->kinds, KNOTSADDLE_MARKS, board->places, KNOTSADDLE_MARKS,
+                           board->companions, KNOTSADDLE_MARKS,
+                           change.file, change.present, knotsaddle_bytes(change.bytes), change.length,
+                           out != NULL ? out : &no_out, out_length,
+                           size != NULL ? size : &no_size, 1,
+                           work != NULL ? work : &no_work, work_length);
+}
+
+/* ---- The same in a workspace that the call gets and gives back. Where there is none it answers KNOTSADDLE_NO_MEMORY, and
+ * everything is as it was. KNOTSADDLE_MALLOC and KNOTSADDLE_FREE may be defined before this file is included. */
+#ifndef KNOTSADDLE_MALLOC
+#include <stdlib.h>
+#define KNOTSADDLE_MALLOC malloc
+#define KNOTSADDLE_FREE free
+#endif
+
+static inline uint32_t *knotsaddle_workspace(void) {
+    return (uint32_t *)KNOTSADDLE_MALLOC(KNOTSADDLE_WORKSPACE * sizeof(uint32_t));
+}
+
+static inline uint32_t knotsaddle_judge_bundle(const uint8_t *bundle, size_t bundle_length, knotsaddle_board *board) {
+    uint32_t *work = knotsaddle_workspace();
+    if (work == NULL) return KNOTSADDLE_NO_MEMORY;
+    uint32_t answer = knotsaddle_judge_in(bundle, bundle_length, board, work, KNOTSADDLE_WORKSPACE);
+    KNOTSADDLE_FREE(work);
+    return answer;
+}
+
+static inline uint32_t knotsaddle_try_change(const uint8_t *bundle, size_t bundle_length, knotsaddle_board *board,
+                                             knotsaddle_change change, size_t *size) {
+    uint32_t *work = knotsaddle_workspace();
+    if (work == NULL) return KNOTSADDLE_NO_MEMORY;
+    uint32_t answer = knotsaddle_try_in(bundle, bundle_length, board, change, size, work, KNOTSADDLE_WORKSPACE);
+    KNOTSADDLE_FREE(work);
+    return answer;
+}
+
+static inline uint32_t knotsaddle_make_change(const uint8_t *bundle, size_t bundle_length, knotsaddle_board *board,
+                                              knotsaddle_change change, uint8_t *out, size_t out_length, size_t *size) {
+    uint32_t *work = knotsaddle_workspace();
+    if (work == NULL) return KNOTSADDLE_NO_MEMORY;
+    uint32_t answer =
+        knotsaddle_make_in(bundle, bundle_length, board, change, out, out_length, size, work, KNOTSADDLE_WORKSPACE);
+    KNOTSADDLE_FREE(work);
+    return answer;
+}
+
+/* ---- Boards, files and texts */
+
+static inline void knotsaddle_fresh_board(knotsaddle_board *board) {
+    knotsaddle_fresh(board->kinds, KNOTSADDLE_MARKS, board->places, KNOTSADDLE_MARKS,
+                     board->companions, KNOTSADDLE_MARKS);
+}
+
+/* 1 if all 81 marks hold, else 0. */
+static inline int knotsaddle_is_accepted(const knotsaddle_board *board) {
+    return knotsaddle_faults(board->kinds, KNOTSADDLE_MARKS) == 0;
+}
+
+/* A file of a bundle; after a refusal, 1, 2, 3 or 4, `part` is as it was. */
+static inline uint32_t knotsaddle_file_part(const uint8_t *bundle, size_t bundle_length, size_t file,
+                                            knotsaddle_part *part) {
+    uint32_t present = 0;
+    size_t place[2] = {0, 0};
+    uint32_t answer = knotsaddle_file(knotsaddle_bytes(bundle), bundle_length, file, &present, 1, place, 2);
+    if (answer != 0) return answer;
+    part->present = present;
+    part->bytes = bundle + place[0];
+    part->length = place[1];
+    return 0;
+}
+
+/* Writes the report of a refusal, or with 0 of the board, to `text`, of KNOTSADDLE_REPORT_ROOM bytes, closed by a zero byte.
+ * Answers its length without that. */
+static inline size_t knotsaddle_report_text(uint32_t refusal, const knotsaddle_board *board, char *text) {
+    size_t length = knotsaddle_report(refusal, board->kinds, KNOTSADDLE_MARKS, board->places, KNOTSADDLE_MARKS,
+                                      board->companions, KNOTSADDLE_MARKS,
+                                      (uint8_t *)text, KNOTSADDLE_REPORT_ROOM);
+    text[length] = 0;
+    return length;
+}
+
+/* Writes the name of a file to `name`, of KNOTSADDLE_NAME_ROOM bytes, closed by a zero byte; nothing else for a number over
+ * 19. Answers its length without that. */
+static inline size_t knotsaddle_name_of_file(size_t file, char *name) {
+    size_t length = knotsaddle_file_name(file, (uint8_t *)name, KNOTSADDLE_NAME_ROOM - 1);
+    name[length] = 0;
+    return length;
+}
+
+/* What a mark is about; an empty text for a number over 80. */
+static inline const char *knotsaddle_about_mark(size_t mark) {
+    static const char *const texts[KNOTSADDLE_MARKS] = {
+#include "marks.inc"
+    };
+    return mark < KNOTSADDLE_MARKS ? texts[mark] : "";
+}
+
+/* Why a call was refused, by its answer; an empty text for 0 and for a number that no call answers. */
+static inline const char *knotsaddle_in_words(uint32_t answer) {
+    static const struct {
+        uint32_t answer;
+        const char *text;
+    } refusals[] = {
+#include "refusals.inc"
+    };
+    for (size_t i = 0; i < sizeof refusals / sizeof refusals[0]; i++) {
+        if (refusals[i].answer == answer) return refusals[i].text;
+    }
+    return "";
+}
 
 #endif

@@ -1,7 +1,8 @@
 //! Calls each function of the wrapper and checks its answer; ends in how many were right.
 
 use knotsaddle::{
-    file, judge, judge_in, make_change, make_in, report, try_change, try_in, Board, Refusal, WORKSPACE,
+    about_mark, empty_bundle, file, file_name, judge, judge_in, make_change, make_in, report, try_change, try_in, Board,
+    Refusal, EMPTY_BUNDLE, FILES, MARKS, WORKSPACE,
 };
 
 struct Count {
@@ -20,44 +21,56 @@ impl Count {
     }
 }
 
-const ALL_OMITTED: &str = "marks 81\n0 21 0\n1 21 0\n3 21 0\n36 2 0\n37 2 0\n65 2 0\n66 2 0\nrefused 7\n";
+const ALL_OMITTED: &str =
+    "marks 81\n0 21 0 0\n1 21 0 0\n3 21 0 0\n36 2 0 0\n37 2 0 0\n65 2 0 0\n66 2 0 0\nrefused 7\n";
 
-fn main() {
-    let mut count = Count { passed: 0, failed: 0 };
-    let mut bundle = vec![0; 164];
-    bundle[0] = 20;
+/// Two resources with one ID: the second record breaks the key, and its companion is the first.
+const TWICE: &[u8] = br#"[{"ID":"R1","Name":"Fitter","ElementOfCostID":"LABOR"},{"ID":"r1","Name":"Rigger","ElementOfCostID":"LABOR"}]"#;
 
+/// What comes of a change without a workspace to lend: judged, tried, made, and asked for.
+fn owning(count: &mut Count) {
+    let bundle = empty_bundle();
+    count.expect("the bundle with no files", bundle[0] == 20 && bundle[1..].iter().all(|&byte| byte == 0));
     let judged = judge(&bundle);
-    count.expect("a bundle of omitted files", report(&judged) == ALL_OMITTED);
+    count.expect("its report", report(&judged) == ALL_OMITTED);
     let board = judged.unwrap_or_else(|_| Board::fresh());
-    count.expect("its board", !board.is_accepted() && board.kinds[3] == 21);
+    count.expect("its board", !board.is_accepted() && board.faults() == 7 && board.kinds[3] == 21);
     count.expect("no bundle", judge(&[]) == Err(Refusal(1)));
     count.expect("its text", report(&judge(&[])) == "bundle 1\n");
 
     let mut out = vec![9; 300];
     let made = make_change(&bundle, &board, 19, Some(b"[]"), &mut out);
-    count.expect("a change", made.as_ref().map(|made| made.1) == Ok(166));
+    count.expect("a change", made.as_ref().map(|made| made.length) == Ok(EMPTY_BUNDLE + 2));
     count.expect("what it writes", &out[164..167] == b"[]\x09");
-    let tried = try_change(&bundle, &board, 19, Some(b"[]"));
-    count.expect("a try", tried.is_ok() && tried.as_ref().ok() == made.as_ref().ok().map(|made| &made.0));
+    count.expect("a try", try_change(&bundle, &board, 19, Some(b"[]")) == made);
     let short = make_change(&bundle, &board, 19, Some(b"[]"), &mut out[..165]);
-    count.expect("an output too short", short.err() == Some(Refusal(5)));
-    count.expect("a withdrawal", try_change(&bundle, &board, 2, None) == Ok(board.clone()));
+    count.expect("an output too short", short == Err(Refusal(5)));
+    let withdrawn = try_change(&bundle, &board, 2, None);
+    count.expect("a withdrawal", withdrawn.map(|tried| (tried.board, tried.length)) == Ok((board.clone(), EMPTY_BUNDLE)));
     count.expect("file 20", try_change(&bundle, &board, 20, None) == Err(Refusal(4)));
     count.expect("a file asked for", file(&out[..166], 19) == Ok(Some(&b"[]"[..])));
     count.expect("an omitted file asked for", file(&bundle, 19) == Ok(None));
+    count.expect("file 20 asked for", file(&bundle, 20) == Err(Refusal(4)));
 
-    // in a lent workspace: what the calls above answer, in one that is filled and then in the same one as it is left
+    let twice = try_change(&bundle, &board, 16, Some(TWICE)).map(|tried| tried.board);
+    let mark = twice.map(|board| (board.kinds[32], board.places[32], board.companions[32]));
+    count.expect("a broken key names both records", mark == Ok((1, 2, 1)));
+}
+
+/// In a workspace that is lent: filled, as the call before left it, and too short.
+fn lent(count: &mut Count) {
+    let bundle = empty_bundle();
+    let board = judge(&bundle).unwrap_or_else(|_| Board::fresh());
     let mut work = vec![u32::MAX; WORKSPACE];
     count.expect("judged in a workspace", judge_in(&bundle, &mut work).as_ref() == Ok(&board));
-    let mut out_in = vec![9; 300];
+    let (mut out, mut out_in) = (vec![9; 300], vec![9; 300]);
+    let made = make_change(&bundle, &board, 19, Some(b"[]"), &mut out);
     let made_in = make_in(&bundle, &board, 19, Some(b"[]"), &mut out_in, &mut work);
-    count.expect("a change in a workspace", made_in == made);
+    count.expect("a change in a workspace", made.is_ok() && made_in == made);
     count.expect("what it writes", out_in == out);
     let tried_in = try_in(&bundle, &board, 19, Some(b"[]"), &mut work);
-    count.expect("a try in a workspace", tried_in == tried);
+    count.expect("a try in a workspace", tried_in == made);
 
-    // in one that is too short, which is then as it was
     let mut short = vec![7; WORKSPACE - 1];
     count.expect("judged in too short a one", judge_in(&bundle, &mut short) == Err(Refusal(14)));
     count.expect("its text", report(&judge_in(&bundle, &mut short)) == "bundle 14\n");
@@ -66,15 +79,43 @@ fn main() {
     let made_in = make_in(&bundle, &board, 18, Some(b"[]"), &mut out_in, &mut short);
     count.expect("a change in too short a one", made_in == Err(Refusal(14)));
     count.expect("what it writes", out_in == out && short.iter().all(|&number| number == 7));
+}
 
-    // a thread with 64 KB of stack, where `judge` would end the program
-    let bundle = &out[..166];
-    let judged = std::thread::scope(|scope| {
-        let thread = std::thread::Builder::new().stack_size(65536);
-        let started = thread.spawn_scoped(scope, || judge_in(bundle, &mut work));
-        started.ok().and_then(|judging| judging.join().ok())
+/// Boards, names and words.
+fn texts(count: &mut Count) {
+    let fresh = Board::fresh();
+    count.expect("a fresh board", fresh.kinds == [2; MARKS] && fresh.places == [0; MARKS] && fresh.companions == [0; MARKS]);
+    let held = Board { kinds: [0; MARKS], ..fresh };
+    count.expect("a board that holds", held.is_accepted() && report(&Ok(held)) == "marks 81\naccepted\n");
+    count.expect("the name of file 9", file_name(9).as_deref() == Some("Tasks.json"));
+    count.expect("each file has a name", (0..FILES).all(|file| file_name(file).is_some()) && file_name(FILES).is_none());
+    let first = about_mark(0);
+    count.expect("what mark 0 is about", first == Some("FileType.txt: the file itself"));
+    let last = about_mark(MARKS - 1);
+    count.expect("what mark 80 is about", last == Some("TaskOutlineStructure: the parent is a SUMMARY task in Tasks"));
+    count.expect("no text for mark 81", about_mark(MARKS).is_none());
+    count.expect("a refusal in words", Refusal(4).to_string() == "refused as 4: the file number is over 19");
+    count.expect("each has words", [1, 2, 3, 4, 5, 6, 14, 102].iter().all(|&number| !Refusal(number).in_words().is_empty()));
+    count.expect("no words for another number", Refusal(7).in_words().is_empty());
+}
+
+/// Four threads at once, each with 64 KB of stack.
+fn threads(count: &mut Count) {
+    let bundle = empty_bundle();
+    let alone = judge(&bundle);
+    let judged: Vec<_> = std::thread::scope(|scope| {
+        let start = || std::thread::Builder::new().stack_size(65536).spawn_scoped(scope, || judge(&bundle));
+        let started: Vec<_> = (0..4).map(|_| start()).collect();
+        started.into_iter().map(|thread| thread.ok().and_then(|judging| judging.join().ok())).collect()
     });
-    count.expect("judged on a small stack", judged == Some(judge(bundle)));
+    count.expect("judged on small stacks at once", judged.iter().all(|one| one.as_ref() == Some(&alone)));
+}
 
+fn main() {
+    let mut count = Count { passed: 0, failed: 0 };
+    owning(&mut count);
+    lent(&mut count);
+    texts(&mut count);
+    threads(&mut count);
     println!("{} passed, {} failed", count.passed, count.failed);
 }

@@ -1,44 +1,49 @@
 //! The gate: judge a bundle in full, try a change, make it, ask for a file, print a report.
 //!
 //! It stands on the static library that `rt staticlib gate_c` writes, for x86-64 Linux. Set `KNOTSADDLE_LIB_DIR` to the
-//! folder that holds `libgate_c.a`; without it `../target/staticlib` is searched.
+//! folder that holds `libgate_c.a`; without it `../target/staticlib` is searched. `docs/BUNDLE.md` has the layout of a bundle,
+//! `c/knotsaddle.h` what the numbers of a board mean.
 //!
-//! `judge`, `try_change` and `make_change` use some 3.3 MB of stack: a thread that calls one needs
-//! `std::thread::Builder::stack_size` of 8 MB or so, since Rust gives it 2. `judge_in`, `try_in` and `make_in` do the same
-//! in a workspace that is lent to them, and use some 36 KB.
+//! `judge`, `try_change` and `make_change` get a workspace of 3,178,808 bytes from the heap and give it back. `judge_in`,
+//! `try_in` and `make_in` do the same in a workspace that the caller lends. All of them use some 29 KB of stack. Nothing is
+//! kept between calls, so any number of threads may call at once.
 
+use std::fmt;
+
+/// How many files a set has.
+pub const FILES: usize = 20;
 /// How many marks a board has.
 pub const MARKS: usize = 81;
-/// The room that a report needs.
-pub const REPORT_ROOM: usize = 4096;
 /// How many numbers a lent workspace must have.
 pub const WORKSPACE: usize = 794_702;
+/// The length of the bundle with no files.
+pub const EMPTY_BUNDLE: usize = 164;
+/// The room that a report needs.
+pub const REPORT_ROOM: usize = 6144;
+/// The length of the longest name of a file.
+const NAME_ROOM: usize = 35;
 
-/// The board: a kind and a place for each mark. Kind 0: the mark holds.
+/// The board: a kind, a place and a companion for each mark. Kind 0: the mark holds.
 #[derive(Clone, Debug, PartialEq, Eq)]
 pub struct Board {
     pub kinds: [u32; MARKS],
     pub places: [usize; MARKS],
+    pub companions: [usize; MARKS],
 }
 
-impl Board {
-    /// Every mark 'not judged'.
-    pub fn fresh() -> Board {
-        Board {
-            kinds: [2; MARKS],
-            places: [0; MARKS],
-        }
-    }
-
-    /// Whether all marks hold.
-    pub fn is_accepted(&self) -> bool {
-        self.kinds.iter().all(|&kind| kind == 0)
-    }
-}
-
-/// Why a bundle or a change is refused, by document 01's number, 1 to 6; 14 where a lent workspace is too short.
+/// Why a call is refused, by its number: document 01's 1 to 6, 14 where a lent workspace is too short, 102 where there is no
+/// memory for one. In words by `Display`.
 #[derive(Clone, Copy, Debug, PartialEq, Eq)]
 pub struct Refusal(pub u32);
+
+/// What a change gives: the board after it, and the length of the new bundle.
+#[derive(Clone, Debug, PartialEq, Eq)]
+pub struct Changed {
+    pub board: Board,
+    pub length: usize,
+}
+
+const NO_MEMORY: Refusal = Refusal(102);
 
 // A slice is passed as its pointer and then its length. `usize` is C's `size_t`.
 extern "C" {
@@ -49,14 +54,8 @@ extern "C" {
         kinds_length: usize,
         places: *mut usize,
         places_length: usize,
-    ) -> u32;
-    fn knotsaddle_judge_in(
-        bundle: *const u8,
-        bundle_length: usize,
-        kinds: *mut u32,
-        kinds_length: usize,
-        places: *mut usize,
-        places_length: usize,
+        companions: *mut usize,
+        companions_length: usize,
         work: *mut u32,
         work_length: usize,
     ) -> u32;
@@ -67,22 +66,14 @@ extern "C" {
         kinds_length: usize,
         places: *mut usize,
         places_length: usize,
+        companions: *mut usize,
+        companions_length: usize,
         file: usize,
         present: u32,
         new_bytes: *const u8,
         new_bytes_length: usize,
-    ) -> u32;
-    fn knotsaddle_try_in(
-        bundle: *const u8,
-        bundle_length: usize,
-        kinds: *mut u32,
-        kinds_length: usize,
-        places: *mut usize,
-        places_length: usize,
-        file: usize,
-        present: u32,
-        new_bytes: *const u8,
-        new_bytes_length: usize,
+        size: *mut usize,
+        size_length: usize,
         work: *mut u32,
         work_length: usize,
     ) -> u32;
@@ -93,22 +84,8 @@ extern "C" {
         kinds_length: usize,
         places: *mut usize,
         places_length: usize,
-        file: usize,
-        present: u32,
-        new_bytes: *const u8,
-        new_bytes_length: usize,
-        out: *mut u8,
-        out_length: usize,
-        size: *mut usize,
-        size_length: usize,
-    ) -> u32;
-    fn knotsaddle_make_in(
-        bundle: *const u8,
-        bundle_length: usize,
-        kinds: *mut u32,
-        kinds_length: usize,
-        places: *mut usize,
-        places_length: usize,
+        companions: *mut usize,
+        companions_length: usize,
         file: usize,
         present: u32,
         new_bytes: *const u8,
@@ -120,25 +97,74 @@ extern "C" {
         work: *mut u32,
         work_length: usize,
     ) -> u32;
-    fn knotsaddle_file(
-        bundle: *const u8,
-        bundle_length: usize,
-        file: usize,
-        place: *mut usize,
-        place_length: usize,
-    ) -> u32;
     fn knotsaddle_report(
         refusal: u32,
         kinds: *const u32,
         kinds_length: usize,
         places: *const usize,
         places_length: usize,
+        companions: *const usize,
+        companions_length: usize,
         out: *mut u8,
         out_length: usize,
     ) -> usize;
+    fn knotsaddle_file(
+        bundle: *const u8,
+        bundle_length: usize,
+        file: usize,
+        present: *mut u32,
+        present_length: usize,
+        place: *mut usize,
+        place_length: usize,
+    ) -> u32;
+    fn knotsaddle_empty(out: *mut u8, out_length: usize) -> usize;
+    fn knotsaddle_fresh(
+        kinds: *mut u32,
+        kinds_length: usize,
+        places: *mut usize,
+        places_length: usize,
+        companions: *mut usize,
+        companions_length: usize,
+    ) -> u32;
+    fn knotsaddle_faults(kinds: *const u32, kinds_length: usize) -> usize;
+    fn knotsaddle_file_name(file: usize, out: *mut u8, out_length: usize) -> usize;
 }
 
-// The lists of a board have the right length by their type, and `present` is 1 or 0, so no call answers 100 or 101.
+// In each call below every pointer comes from a slice or an array of the length beside it, and what is written is lent
+// alone. The lists of a board have the right length by their type, and `present` is 1 or 0, so no call answers 100 or 101.
+
+impl Board {
+    /// Every mark 'not judged'.
+    pub fn fresh() -> Board {
+        let mut board = Board {
+            kinds: [0; MARKS],
+            places: [0; MARKS],
+            companions: [0; MARKS],
+        };
+        unsafe {
+            knotsaddle_fresh(
+                board.kinds.as_mut_ptr(),
+                MARKS,
+                board.places.as_mut_ptr(),
+                MARKS,
+                board.companions.as_mut_ptr(),
+                MARKS,
+            );
+        }
+        board
+    }
+
+    /// How many marks don't hold.
+    pub fn faults(&self) -> usize {
+        unsafe { knotsaddle_faults(self.kinds.as_ptr(), MARKS) }
+    }
+
+    /// Whether all marks hold.
+    pub fn is_accepted(&self) -> bool {
+        self.faults() == 0
+    }
+}
+
 fn answer<T>(refusal: u32, value: T) -> Result<T, Refusal> {
     if refusal == 0 {
         Ok(value)
@@ -147,10 +173,10 @@ fn answer<T>(refusal: u32, value: T) -> Result<T, Refusal> {
     }
 }
 
-/// Judges a bundle in full.
-pub fn judge(bundle: &[u8]) -> Result<Board, Refusal> {
+/// Judges a bundle in full in a lent workspace of at least `WORKSPACE` numbers, whatever they are. After a refusal it is as
+/// it was, else it holds what was read; it may be lent again as it is.
+pub fn judge_in(bundle: &[u8], work: &mut [u32]) -> Result<Board, Refusal> {
     let mut board = Board::fresh();
-    // Each pointer comes from a slice or an array of that length, and the two that are written are lent alone.
     let refusal = unsafe {
         knotsaddle_judge(
             bundle.as_ptr(),
@@ -159,23 +185,7 @@ pub fn judge(bundle: &[u8]) -> Result<Board, Refusal> {
             MARKS,
             board.places.as_mut_ptr(),
             MARKS,
-        )
-    };
-    answer(refusal, board)
-}
-
-/// Judges a bundle in full in a lent workspace of at least `WORKSPACE` numbers, whatever they are. After a refusal it is as
-/// it was, else it holds what was read; it may be lent again as it is.
-pub fn judge_in(bundle: &[u8], work: &mut [u32]) -> Result<Board, Refusal> {
-    let mut board = Board::fresh();
-    // As in `judge`; `work` is lent alone too.
-    let refusal = unsafe {
-        knotsaddle_judge_in(
-            bundle.as_ptr(),
-            bundle.len(),
-            board.kinds.as_mut_ptr(),
-            MARKS,
-            board.places.as_mut_ptr(),
+            board.companions.as_mut_ptr(),
             MARKS,
             work.as_mut_ptr(),
             work.len(),
@@ -184,16 +194,18 @@ pub fn judge_in(bundle: &[u8], work: &mut [u32]) -> Result<Board, Refusal> {
     answer(refusal, board)
 }
 
-/// Tries a change of a file, 0 to 19, to new bytes or, with `None`, to no file: the board after it. No bundle is made.
-pub fn try_change(
+/// Tries a change of a file, 0 to 19, in a lent workspace, to new bytes or, with `None`, to no file: the board after it, and
+/// the length that the new bundle would have. No bundle is made.
+pub fn try_in(
     bundle: &[u8],
     board: &Board,
     file: usize,
     new: Option<&[u8]>,
-) -> Result<Board, Refusal> {
+    work: &mut [u32],
+) -> Result<Changed, Refusal> {
     let mut board = board.clone();
     let bytes = new.unwrap_or(&[]);
-    // As in `judge`; the board is a copy of its own.
+    let mut size = [0usize; 1];
     let refusal = unsafe {
         knotsaddle_try(
             bundle.as_ptr(),
@@ -202,58 +214,35 @@ pub fn try_change(
             MARKS,
             board.places.as_mut_ptr(),
             MARKS,
-            file,
-            new.is_some() as u32,
-            bytes.as_ptr(),
-            bytes.len(),
-        )
-    };
-    answer(refusal, board)
-}
-
-/// Tries a change in a lent workspace, as `judge_in` has it.
-pub fn try_in(
-    bundle: &[u8],
-    board: &Board,
-    file: usize,
-    new: Option<&[u8]>,
-    work: &mut [u32],
-) -> Result<Board, Refusal> {
-    let mut board = board.clone();
-    let bytes = new.unwrap_or(&[]);
-    // As in `try_change`; `work` is lent alone too.
-    let refusal = unsafe {
-        knotsaddle_try_in(
-            bundle.as_ptr(),
-            bundle.len(),
-            board.kinds.as_mut_ptr(),
-            MARKS,
-            board.places.as_mut_ptr(),
+            board.companions.as_mut_ptr(),
             MARKS,
             file,
             new.is_some() as u32,
             bytes.as_ptr(),
             bytes.len(),
+            size.as_mut_ptr(),
+            1,
             work.as_mut_ptr(),
             work.len(),
         )
     };
-    answer(refusal, board)
+    let length = size[0];
+    answer(refusal, Changed { board, length })
 }
 
-/// Makes a change: the new bundle goes to the front of `out`, and its length comes back with the board after it. After a
-/// refusal `out` is as it was.
-pub fn make_change(
+/// Makes a change in a lent workspace, handed over as to `try_in`: the new bundle goes to the front of `out`. After a refusal
+/// `out` is as it was.
+pub fn make_in(
     bundle: &[u8],
     board: &Board,
     file: usize,
     new: Option<&[u8]>,
     out: &mut [u8],
-) -> Result<(Board, usize), Refusal> {
+    work: &mut [u32],
+) -> Result<Changed, Refusal> {
     let mut board = board.clone();
     let bytes = new.unwrap_or(&[]);
     let mut size = [0usize; 1];
-    // As in `try_change`; `out` is lent alone too.
     let refusal = unsafe {
         knotsaddle_make(
             bundle.as_ptr(),
@@ -262,39 +251,7 @@ pub fn make_change(
             MARKS,
             board.places.as_mut_ptr(),
             MARKS,
-            file,
-            new.is_some() as u32,
-            bytes.as_ptr(),
-            bytes.len(),
-            out.as_mut_ptr(),
-            out.len(),
-            size.as_mut_ptr(),
-            1,
-        )
-    };
-    answer(refusal, (board, size[0]))
-}
-
-/// Makes a change in a lent workspace, as `judge_in` has it.
-pub fn make_in(
-    bundle: &[u8],
-    board: &Board,
-    file: usize,
-    new: Option<&[u8]>,
-    out: &mut [u8],
-    work: &mut [u32],
-) -> Result<(Board, usize), Refusal> {
-    let mut board = board.clone();
-    let bytes = new.unwrap_or(&[]);
-    let mut size = [0usize; 1];
-    // As in `make_change`; `work` is lent alone too.
-    let refusal = unsafe {
-        knotsaddle_make_in(
-            bundle.as_ptr(),
-            bundle.len(),
-            board.kinds.as_mut_ptr(),
-            MARKS,
-            board.places.as_mut_ptr(),
+            board.companions.as_mut_ptr(),
             MARKS,
             file,
             new.is_some() as u32,
@@ -308,20 +265,74 @@ pub fn make_in(
             work.len(),
         )
     };
-    answer(refusal, (board, size[0]))
+    let length = size[0];
+    answer(refusal, Changed { board, length })
+}
+
+fn workspace() -> Result<Vec<u32>, Refusal> {
+    let mut work = Vec::new();
+    work.try_reserve_exact(WORKSPACE).map_err(|_| NO_MEMORY)?;
+    work.resize(WORKSPACE, 0);
+    Ok(work)
+}
+
+/// Judges a bundle in full.
+pub fn judge(bundle: &[u8]) -> Result<Board, Refusal> {
+    judge_in(bundle, &mut workspace()?)
+}
+
+/// Tries a change, as `try_in` has it.
+pub fn try_change(
+    bundle: &[u8],
+    board: &Board,
+    file: usize,
+    new: Option<&[u8]>,
+) -> Result<Changed, Refusal> {
+    try_in(bundle, board, file, new, &mut workspace()?)
+}
+
+/// Makes a change, as `make_in` has it.
+pub fn make_change(
+    bundle: &[u8],
+    board: &Board,
+    file: usize,
+    new: Option<&[u8]>,
+    out: &mut [u8],
+) -> Result<Changed, Refusal> {
+    make_in(bundle, board, file, new, out, &mut workspace()?)
 }
 
 /// A file of a bundle, 0 to 19, as the part of the bundle itself; `None` for an omitted one.
 pub fn file(bundle: &[u8], file: usize) -> Result<Option<&[u8]>, Refusal> {
+    let mut present = [0u32; 1];
     let mut place = [0usize; 2];
-    // As in `judge`; only `place` is written.
-    let state =
-        unsafe { knotsaddle_file(bundle.as_ptr(), bundle.len(), file, place.as_mut_ptr(), 2) };
-    match state {
-        0 => Ok(Some(&bundle[place[0]..place[0] + place[1]])),
-        1 => Ok(None),
-        refused => Err(Refusal(refused - 200)),
-    }
+    let refusal = unsafe {
+        knotsaddle_file(
+            bundle.as_ptr(),
+            bundle.len(),
+            file,
+            present.as_mut_ptr(),
+            1,
+            place.as_mut_ptr(),
+            2,
+        )
+    };
+    let part = (refusal == 0 && present[0] == 1).then(|| &bundle[place[0]..place[0] + place[1]]);
+    answer(refusal, part)
+}
+
+/// The bundle with no files.
+pub fn empty_bundle() -> [u8; EMPTY_BUNDLE] {
+    let mut bundle = [0u8; EMPTY_BUNDLE];
+    unsafe { knotsaddle_empty(bundle.as_mut_ptr(), EMPTY_BUNDLE) };
+    bundle
+}
+
+/// The name of a file, 0 to 19.
+pub fn file_name(file: usize) -> Option<String> {
+    let mut name = [0u8; NAME_ROOM];
+    let length = unsafe { knotsaddle_file_name(file, name.as_mut_ptr(), NAME_ROOM) };
+    (length != 0).then(|| String::from_utf8_lossy(&name[..length]).into_owned())
 }
 
 /// The judging program's text of a judgement.
@@ -332,7 +343,6 @@ pub fn report(judged: &Result<Board, Refusal>) -> String {
         Err(Refusal(number)) => (*number, &fresh),
     };
     let mut text = [0u8; REPORT_ROOM];
-    // As in `judge`; only `text` is written.
     let length = unsafe {
         knotsaddle_report(
             refusal,
@@ -340,9 +350,37 @@ pub fn report(judged: &Result<Board, Refusal>) -> String {
             MARKS,
             board.places.as_ptr(),
             MARKS,
+            board.companions.as_ptr(),
+            MARKS,
             text.as_mut_ptr(),
             REPORT_ROOM,
         )
     };
     String::from_utf8_lossy(&text[..length]).into_owned()
 }
+
+// The texts stand once, in the lines that the header includes too: `"text",` and `{number, "text"},`.
+
+/// What a mark, 0 to 80, is about.
+pub fn about_mark(mark: usize) -> Option<&'static str> {
+    let lines = include_str!("../../c/marks.inc").lines();
+    lines.filter_map(|line| line.strip_prefix('"')?.strip_suffix("\",")).nth(mark)
+}
+
+impl Refusal {
+    /// The refusal in words; an empty text for a number that no call answers.
+    pub fn in_words(&self) -> &'static str {
+        let start = format!("{{{}, \"", self.0);
+        let lines = include_str!("../../c/refusals.inc").lines();
+        let mut texts = lines.filter_map(|line| line.strip_prefix(&start[..])?.strip_suffix("\"},"));
+        texts.next().unwrap_or("")
+    }
+}
+
+impl fmt::Display for Refusal {
+    fn fmt(&self, out: &mut fmt::Formatter) -> fmt::Result {
+        write!(out, "refused as {}: {}", self.0, self.in_words())
+    }
+}
+
+impl std::error::Error for Refusal {}

@@ -2,20 +2,27 @@
 
 pub const MARKS: usize = 81;
 
-/// Kind 0 place 0: holds.
+/// Kind 0 place 0: holds. The companion (order 5) is a record's number: of the
+/// earliest copy of a broken key, of the parent (79 and 80), or of the record
+/// that a fault of a file stands in; where none is named, 0.
 #[derive(Clone, Copy, Debug, PartialEq, Eq)]
 pub struct Mark {
     pub kind: u32,
     pub place: u32,
+    pub companion: u32,
 }
 
-pub const HOLDS: Mark = Mark { kind: 0, place: 0 };
-pub const NOT_JUDGED: Mark = Mark { kind: 2, place: 0 };
+pub const HOLDS: Mark = Mark { kind: 0, place: 0, companion: 0 };
+pub const NOT_JUDGED: Mark = Mark { kind: 2, place: 0, companion: 0 };
 
-/// A rule broken at a record, counted from 1.
-pub fn broken_at(record: usize) -> Mark {
-    let place = u32::try_from(record).expect("a table has at most 4,096 records");
-    Mark { kind: 1, place }
+/// A rule broken at a record and the record named with it, both by their
+/// numbers from 1; companion 0 is none.
+pub fn broken_at(record: usize, companion: usize) -> Mark {
+    Mark { kind: 1, place: record_number(record), companion: record_number(companion) }
+}
+
+pub fn record_number(record: usize) -> u32 {
+    u32::try_from(record).expect("a table has at most 4,096 records")
 }
 
 #[derive(Clone, Copy, Debug, PartialEq, Eq)]

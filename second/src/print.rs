@@ -16,7 +16,7 @@ pub fn report(input: &[u8]) -> String {
     }
     let mut text = String::from("marks 81\n");
     for (number, mark) in verdict.board.faults() {
-        text += &format!("{number} {} {}\n", mark.kind, mark.place);
+        text += &format!("{number} {} {} {}\n", mark.kind, mark.place, mark.companion);
     }
     match verdict.board.faults().count() {
         0 => text += "accepted\n",

@@ -1,7 +1,8 @@
 //! Marks 20 to 80: what each rule reads and where it is broken.
 
 use std::cmp::Ordering;
-use std::collections::HashSet;
+use std::collections::hash_map::Entry;
+use std::collections::{HashMap, HashSet};
 
 use crate::board::{broken_at, Mark, HOLDS, NOT_JUDGED};
 use crate::fields::{is_value_of, Enumeration};
@@ -151,17 +152,40 @@ pub fn judge_rule<'a>(number: usize, reading_of: impl Fn(usize) -> &'a Reading) 
         }
     }
     match first_breaking(&rule(number), &tables) {
-        Some(index) => broken_at(index + 1),
+        Some(Broken { at, companion }) => broken_at(at + 1, companion.map_or(0, |index| index + 1)),
         None => HOLDS,
     }
 }
 
-/// The index of the first breaking record. `tables` holds the records of the
-/// files read, in the order of `files_read`.
-fn first_breaking(rule: &Rule, tables: &[&[Record]]) -> Option<usize> {
+/// The index of a breaking record, and of the one that is named with it.
+#[derive(Clone, Copy, Debug, PartialEq, Eq)]
+struct Broken {
+    at: usize,
+    companion: Option<usize>,
+}
+
+impl Broken {
+    /// By itself, or by what another table lacks: no record is named with it.
+    fn alone(at: usize) -> Broken {
+        Broken { at, companion: None }
+    }
+}
+
+/// The first breaking record. `tables` holds the records of the files read, in
+/// the order of `files_read`.
+fn first_breaking(rule: &Rule, tables: &[&[Record]]) -> Option<Broken> {
+    match *rule {
+        Rule::Key { fields, .. } => first_repeated_key(tables[0], fields),
+        Rule::ParentGiven => first_wrong_parent(tables[0]),
+        Rule::ParentIsSummary => first_child_of_no_summary(tables[0], tables[1]),
+        _ => first_breaking_alone(rule, tables).map(Broken::alone),
+    }
+}
+
+/// The index of the first breaking record, for the rules that name no other.
+fn first_breaking_alone(rule: &Rule, tables: &[&[Record]]) -> Option<usize> {
     let records = tables[0];
     match *rule {
-        Rule::Key { fields, .. } => first_repeated_key(records, fields),
         Rule::OneOf { field, values, .. } => records
             .iter()
             .position(|record| record.id(field).map_or(false, |id| !is_value_of(values, &id))),
@@ -179,8 +203,9 @@ fn first_breaking(rule: &Rule, tables: &[&[Record]]) -> Option<usize> {
         }
         Rule::Each { wrong, .. } => records.iter().position(wrong),
         Rule::LevelRun => first_wrong_level(records),
-        Rule::ParentGiven => first_wrong_parent(records),
-        Rule::ParentIsSummary => first_child_of_no_summary(records, tables[1]),
+        Rule::Key { .. } | Rule::ParentGiven | Rule::ParentIsSummary => {
+            unreachable!("these name another record")
+        }
     }
 }
 
@@ -198,12 +223,17 @@ enum KeyPart {
     Date(Date),
 }
 
-fn first_repeated_key(records: &[Record], fields: &[&str]) -> Option<usize> {
-    let mut earlier: HashSet<Vec<KeyPart>> = HashSet::new();
-    records.iter().position(|record| {
+/// With the earliest record of the same key.
+fn first_repeated_key(records: &[Record], fields: &[&str]) -> Option<Broken> {
+    let mut first_with: HashMap<Vec<KeyPart>, usize> = HashMap::new();
+    for (at, record) in records.iter().enumerate() {
         let key = fields.iter().map(|field| key_part(record, field)).collect();
-        !earlier.insert(key)
-    })
+        match first_with.entry(key) {
+            Entry::Occupied(first) => return Some(Broken { at, companion: Some(*first.get()) }),
+            Entry::Vacant(free) => drop(free.insert(at)),
+        }
+    }
+    None
 }
 
 /// Ordinal is the only key field that can be null, and a null Ordinal is 0.
@@ -318,29 +348,31 @@ fn parent_of(levels: &[i64], index: usize) -> Option<usize> {
     levels[..index].iter().rposition(|level| *level < levels[index])
 }
 
-fn first_wrong_parent(outline: &[Record]) -> Option<usize> {
+/// With the parent that should have been given, if there is one; at Level 1
+/// there is none, whatever stands before.
+fn first_wrong_parent(outline: &[Record]) -> Option<Broken> {
     let levels = levels(outline);
-    (0..outline.len()).find(|&index| {
-        let given = outline[index].id("ParentTaskID");
-        if levels[index] == 1 {
-            return given.is_some();
+    (0..outline.len()).find_map(|at| {
+        let given = outline[at].id("ParentTaskID");
+        if levels[at] == 1 {
+            return given.is_some().then(|| Broken::alone(at));
         }
-        match parent_of(&levels, index) {
-            Some(parent) => given != outline[parent].id("TaskID"),
-            None => true,
-        }
+        let companion = parent_of(&levels, at);
+        let is_right = companion.map_or(false, |parent| given == outline[parent].id("TaskID"));
+        (!is_right).then_some(Broken { at, companion })
     })
 }
 
-fn first_child_of_no_summary(outline: &[Record], tasks: &[Record]) -> Option<usize> {
+/// With the parent that is no SUMMARY.
+fn first_child_of_no_summary(outline: &[Record], tasks: &[Record]) -> Option<Broken> {
     let levels = levels(outline);
     let summaries: HashSet<String> =
         tasks.iter().filter(|task| is_summary(task)).filter_map(|task| task.id("ID")).collect();
     let is_summary_record =
         |index: usize| outline[index].id("TaskID").map_or(false, |id| summaries.contains(&id));
-    (0..outline.len()).find(|&index| {
-        levels[index] != 1
-            && parent_of(&levels, index).map_or(false, |parent| !is_summary_record(parent))
+    (0..outline.len()).filter(|at| levels[*at] != 1).find_map(|at| {
+        let parent = parent_of(&levels, at)?;
+        (!is_summary_record(parent)).then_some(Broken { at, companion: Some(parent) })
     })
 }
 

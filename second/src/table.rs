@@ -3,7 +3,7 @@
 
 use std::collections::{HashMap, HashSet};
 
-use crate::board::Mark;
+use crate::board::{record_number, Mark};
 use crate::fields::{fields_of, Field, Type};
 use crate::json::{
     byte_at, date_of, first_breach, not_json, read_literal, read_number, read_string, skip_spaces,
@@ -113,19 +113,30 @@ pub type Reading = Result<Vec<Record>, Mark>;
 /// Reads the file of that number as it stands, or as omitted.
 pub fn read_file(number: usize, contents: Option<&[u8]>) -> Reading {
     match (number, contents) {
-        (0 | 1 | 3, None) => Err(Mark { kind: FILE_MISSING, place: 0 }),
+        (0 | 1 | 3, None) => Err(Fault { kind: FILE_MISSING, place: 0 }.into()),
         (_, None) => Ok(Vec::new()),
         (0, Some(bytes)) if bytes == FILE_TYPE => Ok(Vec::new()),
-        (0, Some(_)) => Err(Mark { kind: WRONG_FILE_TYPE, place: 0 }),
-        (_, Some(bytes)) => {
-            let reader = Reader { bytes, table: number };
-            reader.read_whole_file().map_err(mark_of_fault)
-        }
+        (0, Some(_)) => Err(Fault { kind: WRONG_FILE_TYPE, place: 0 }.into()),
+        (_, Some(bytes)) => Reader { bytes, table: number }.read_whole_file(),
     }
 }
 
-fn mark_of_fault(fault: Fault) -> Mark {
-    Mark { kind: fault.kind, place: offset(fault.place) }
+/// A fault that stands in no record, or whose kind names none.
+impl From<Fault> for Mark {
+    fn from(fault: Fault) -> Mark {
+        Mark { kind: fault.kind, place: offset(fault.place), companion: 0 }
+    }
+}
+
+/// A fault met while the record of that number was read.
+fn mark_in_record(fault: Fault, record: usize) -> Mark {
+    match fault.kind {
+        UNKNOWN_NAME | NAME_TWICE | WRONG_JSON_KIND | NOT_A_DATE | BEYOND_LIMITS
+        | BARRED_CONTROL | WHITESPACE | OUTSIDE_ID_SET | UNPAIRED_SURROGATE | NOT_WHOLE => {
+            Mark { companion: record_number(record), ..fault.into() }
+        }
+        _ => fault.into(),
+    }
 }
 
 fn offset(place: usize) -> u32 {
@@ -164,7 +175,7 @@ impl<'a> Reader<'a> {
     }
 
     /// The file's value, and nothing but spaces after it.
-    fn read_whole_file(&self) -> Result<Vec<Record>, Fault> {
+    fn read_whole_file(&self) -> Reading {
         let start = self.skip(0);
         let (records, after) = if is_singleton(self.table) {
             let (record, after) = self.read_singleton(start)?;
@@ -174,22 +185,22 @@ impl<'a> Reader<'a> {
         };
         let end = self.skip(after);
         if end < self.bytes.len() {
-            return Err(not_json(end));
+            return Err(not_json(end).into());
         }
         Ok(records)
     }
 
-    fn read_singleton(&self, at: usize) -> Result<(Record, usize), Fault> {
+    fn read_singleton(&self, at: usize) -> Result<(Record, usize), Mark> {
         match self.begin_value(at)? {
-            Begun::Object => self.read_record(at),
-            _ => fault(NOT_A_TABLE, at),
+            Begun::Object => self.read_record(at, 1),
+            _ => Err(Fault { kind: NOT_A_TABLE, place: at }.into()),
         }
     }
 
-    fn read_array(&self, at: usize) -> Result<(Vec<Record>, usize), Fault> {
+    fn read_array(&self, at: usize) -> Result<(Vec<Record>, usize), Mark> {
         match self.begin_value(at)? {
             Begun::Array => {}
-            _ => return fault(NOT_A_TABLE, at),
+            _ => return Err(Fault { kind: NOT_A_TABLE, place: at }.into()),
         }
         let mut records = Vec::new();
         let mut place = self.skip(at + 1);
@@ -203,18 +214,20 @@ impl<'a> Reader<'a> {
             match self.byte(next) {
                 b',' => place = self.skip(next + 1),
                 b']' => return Ok((records, next + 1)),
-                _ => return Err(not_json(next)),
+                _ => return Err(not_json(next).into()),
             }
         }
     }
 
     /// An element that is no object is a wrong table even where it would be
     /// one record too many.
-    fn read_element(&self, at: usize, earlier: usize) -> Result<(Record, usize), Fault> {
+    fn read_element(&self, at: usize, earlier: usize) -> Result<(Record, usize), Mark> {
         match self.begin_value(at)? {
-            Begun::Object if earlier == MOST_RECORDS => fault(TOO_MANY_RECORDS, at),
-            Begun::Object => self.read_record(at),
-            _ => fault(NOT_A_TABLE, at),
+            Begun::Object if earlier == MOST_RECORDS => {
+                Err(Fault { kind: TOO_MANY_RECORDS, place: at }.into())
+            }
+            Begun::Object => self.read_record(at, earlier + 1),
+            _ => Err(Fault { kind: NOT_A_TABLE, place: at }.into()),
         }
     }
 
@@ -230,8 +243,12 @@ impl<'a> Reader<'a> {
         }
     }
 
-    /// Reads the record whose opening brace is at `at`.
-    fn read_record(&self, at: usize) -> Result<(Record, usize), Fault> {
+    /// Reads the record of that number, whose opening brace is at `at`.
+    fn read_record(&self, at: usize, number: usize) -> Result<(Record, usize), Mark> {
+        self.read_members(at).map_err(|fault| mark_in_record(fault, number))
+    }
+
+    fn read_members(&self, at: usize) -> Result<(Record, usize), Fault> {
         let mut record = Record::default();
         let mut seen: HashSet<&'static str> = HashSet::new();
         let mut place = self.skip(at + 1);

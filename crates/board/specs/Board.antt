@@ -1,4 +1,5 @@
--- The board of document 01: "81 marks, in the order of the next two sections, each a kind and a place".
+-- The board of document 01: "81 marks, in the order of the next two sections, each a kind and a place", and by
+-- document 02, order 5, a companion.
 use Prim.Native.Nat.{ℕ}
 use mathlib.Core.Bool.{Bool}
 use lib.Dec.{eqb}
@@ -7,10 +8,10 @@ use Rattle.board.specs.declared.Board.{Board}
 
 -- a board by its marks, and its marks
 abbrev pub boardOf : Marks → Board
-boardOf marks = record { kinds = marks .kinds; places = marks .places }
+boardOf marks = record { kinds = marks .kinds; places = marks .places; companions = marks .companions }
 
 abbrev pub marksOn : Board → Marks
-marksOn board = marksIn (board .kinds) (board .places)
+marksOn board = marksIn (board .kinds) (board .places) (board .companions)
 
 -- 81 marks "not judged"
 unfoldable pub freshBoard : Board

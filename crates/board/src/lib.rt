@@ -1,4 +1,4 @@
-// The board of document 01: 81 kinds and 81 places.
+// The board of document 01: 81 kinds, 81 places and 81 companions.
 ghost use mathlib.Core.Path.{_≡_};
 ghost use mathlib.Core.Bool.{cond};
 ghost use mathlib.Core.List.{_++_};
@@ -13,6 +13,7 @@ use report::report;
 pub struct Board {
     pub kinds: [u32; 81],
     pub places: [usize; 81],
+    pub companions: [usize; 81],
 }
 
 // A fresh board: every mark 'not judged'.
@@ -22,6 +23,7 @@ pub fn fresh() -> Board
     Board {
         kinds: [2u32; 81],
         places: [0usize; 81],
+        companions: [0usize; 81],
     }
 }
 
@@ -41,13 +43,14 @@ pub fn is_accepted(board: Board) -> bool
 }
 
 // Writes the text of a refusal, or with none that of a board, to the front of an output of at least
-// 4,096 bytes, which holds every such text; answers its length.
+// 6,144 bytes, which holds every such text; answers its length.
 pub fn report_board(refusal: u32, board: Board, out: &mut [u8]) -> usize
-    ensures { λ r. ⌜ r ≡ cond (leb 4096 (length (now (out .entry)))) (length (reportOf refusal (marksOn board))) 0 ⌝ }
-    ensures { λ _. ⌜ now (out .exit) ≡ cond (leb 4096 (length (now (out .entry)))) (reportOf refusal (marksOn board) ++ drop (length (reportOf refusal (marksOn board))) (now (out .entry))) (now (out .entry)) ⌝ }
+    ensures { λ r. ⌜ r ≡ cond (leb 6144 (length (now (out .entry)))) (length (reportOf refusal (marksOn board))) 0 ⌝ }
+    ensures { λ _. ⌜ now (out .exit) ≡ cond (leb 6144 (length (now (out .entry)))) (reportOf refusal (marksOn board) ++ drop (length (reportOf refusal (marksOn board))) (now (out .entry))) (now (out .entry)) ⌝ }
     ensures { λ r. ⌜ r ≤ length (now (out .entry)) ⌝ }
 {
     let kinds = board.kinds;
     let places = board.places;
-    report(refusal, &kinds, &places, out)
+    let companions = board.companions;
+    report(refusal, &kinds, &places, &companions, out)
 }

@@ -1,6 +1,5 @@
-// A mark from lists in which files were read: the cells of all files in one list, and the kind and the
-// place of each file's mark and the number of its records in lists of their own. What stands past the
-// end of a list is 0.
+// A mark from lists in which files were read: the cells of all files in one list, and each file's mark
+// and the number of its records in lists of their own. What stands past the end of a list is 0.
 ghost use mathlib.Core.Path.{_≡_};
 ghost use Prim.Native.Nat.{_+_, _*_};
 ghost use lib.ListN.{getD};
@@ -10,6 +9,9 @@ ghost use Rattle.mark_numbers.specs.Marks.{marksIn};
 ghost use Rattle.rule_shape.specs.Rule.{ruleFrom};
 ghost use Rattle.found_marks.specs.Found.{countIn, tableIn, ruleMarkIn, foundMark};
 use mark_numbers::Mark;
+use mark_numbers::kind_at;
+use mark_numbers::mark_in;
+use mark_numbers::number_at;
 use rule_shape::first_file;
 use rule_shape::second_file;
 use rules::is_judged;
@@ -18,24 +20,6 @@ use rules::rule_break;
 use standing::part_standing;
 use table_rows::cell_at;
 use table_rows::field_count;
-
-fn kind_at(kinds: &[u32], k: usize) -> u32
-    ensures { λ r. ⌜ r ≡ getD (now (kinds .entry)) k 0 ⌝ }
-{
-    if kinds.len() <= k {
-        return 0;
-    }
-    kinds[k]
-}
-
-fn number_at(numbers: &[usize], k: usize) -> usize
-    ensures { λ r. ⌜ r ≡ getD (now (numbers .entry)) k 0 ⌝ }
-{
-    if numbers.len() <= k {
-        return 0;
-    }
-    numbers[k]
-}
 
 // How many fields file k has; a fixed text has none.
 pub fn count_of(forms: &[u32], fields: &[u32], k: usize) -> usize
@@ -94,7 +78,11 @@ fn rule_mark<'a>(
     let first = first_file(rules, i);
     let second = second_file(rules, i);
     if !is_judged(kind_at(kinds, first), kind_at(kinds, second)) {
-        return Mark { kind: 2, place: 0 };
+        return Mark {
+            kind: 2,
+            place: 0,
+            companion: 0,
+        };
     }
     let s = part_standing(a, b, c, stand, first);
     let u = part_standing(a, b, c, stand, second);
@@ -132,22 +120,28 @@ pub fn mark_at<'a>(
     work: &[u32],
     kinds: &[u32],
     places: &[usize],
+    companions: &[usize],
     records: &[usize],
 ) -> Mark
-    ensures { λ r. ⌜ r ≡ foundMark n (ruleFrom (now (rules .entry))) (now (values .entry)) (now (texts .entry)) (tableIn (standing (now (a .entry)) (now (b .entry)) (now (c .entry)) (now (stand .entry))) (countIn (now (forms .entry)) (now (fields .entry))) (now (starts .entry)) (now (work .entry)) (now (records .entry))) (marksIn (now (kinds .entry)) (now (places .entry))) m ⌝ }
+    ensures { λ r. ⌜ r ≡ foundMark n (ruleFrom (now (rules .entry))) (now (values .entry)) (now (texts .entry)) (tableIn (standing (now (a .entry)) (now (b .entry)) (now (c .entry)) (now (stand .entry))) (countIn (now (forms .entry)) (now (fields .entry))) (now (starts .entry)) (now (work .entry)) (now (records .entry))) (marksIn (now (kinds .entry)) (now (places .entry)) (now (companions .entry))) m ⌝ }
 {
     if m < n {
-        return Mark {
-            kind: kind_at(kinds, m),
-            place: number_at(places, m),
-        };
+        return mark_in(kinds, places, companions, m);
     }
     let i = m - n;
     if n <= first_file(rules, i) {
-        return Mark { kind: 2, place: 0 };
+        return Mark {
+            kind: 2,
+            place: 0,
+            companion: 0,
+        };
     }
     if n <= second_file(rules, i) {
-        return Mark { kind: 2, place: 0 };
+        return Mark {
+            kind: 2,
+            place: 0,
+            companion: 0,
+        };
     }
     rule_mark(
         a,

@@ -5,11 +5,10 @@ use Prim.Native.Nat.{ℕ}
 use mathlib.Core.Path.{_≡_, ap, _∙_}
 use mathlib.Core.List.{List}
 use native.Mathlib.Omega.{arith}
-use borrow.Author.Tests.{le-leb, eq-eqb}
-use lib.ListN.{length}
+use borrow.Author.Tests.{le-leb}
 use Rattle.parts.specs.Files.{File}
 use Rattle.mark_numbers.specs.Marks.{Marks, marksIn, freshMarks, notJudged}
-use Rattle.mark_numbers.proofs.Laws.{kinds-length, places-length}
+use Rattle.mark_numbers.proofs.Laws.{Long, long-lists, marks-long}
 use Rattle.bundle.specs.declared.Made.{Made}
 use Rattle.bundle_layout.specs.Change.{output}
 use Rattle.board.specs.Board.{boardOf}
@@ -27,30 +26,27 @@ with-board : Made → Marks → Verdict
 with-board made marks = record { refusal = made .refusal; length = made .length; board = boardOf marks }
 
 -- what the call over lists left besides, it left for the call with a board too
-pub verdict-is : (x : Answer) {made : Made} {kinds places : List ℕ} {Left : Type 0} → (made ≡ madeOf x) × ((marksIn kinds places ≡ x .marks) × Left)
-    → (record { refusal = made .refusal; length = made .length; board = record { kinds = kinds; places = places } } ≡ verdictOf x) × Left
+pub verdict-is : (x : Answer) {made : Made} {kinds places companions : List ℕ} {Left : Type 0} → (made ≡ madeOf x) × ((marksIn kinds places companions ≡ x .marks) × Left)
+    → (record { refusal = made .refusal; length = made .length; board = record { kinds = kinds; places = places; companions = companions } } ≡ verdictOf x) × Left
 unfolding verdictOf madeOf with-board
-verdict-is x {made} {kinds} {places} (e, (q, left)) =
-    (ap (λ (m : Made). with-board m (marksIn kinds places)) e ∙ ap (with-board (madeOf x)) q, left)
+verdict-is x {made} {kinds} {places} {companions} (e, (q, left)) =
+    (ap (λ (m : Made). with-board m (marksIn kinds places companions)) e ∙ ap (with-board (madeOf x)) q, left)
 
 -- ---- so many numbers and lists of 81 are room enough
-abbrev pub Of81 : Marks → Type 0
-Of81 marks = (length (marks .kinds) ≡ 81) × (length (marks .places) ≡ 81)
-
 module _ {lent : ℕ} (w : lent ≡ 794702) where
-  has-room : (handed : Marks) → Of81 handed → lentFault schedule lent handed ≡ 0
+  has-room : (handed : Marks) → Long 81 handed → lentFault schedule lent handed ≡ 0
   unfolding lentFault hasLists hasRoom
-  has-room handed (k, p) =
-      rw (marks-are, eq-eqb _ 81 k, eq-eqb _ 81 p, workspace-is, le-leb 794702 lent (omega arith), files-are)
+  has-room handed long =
+      rw (marks-are, long-lists 81 handed long, workspace-is, le-leb 794702 lent (omega arith), files-are)
 
   fresh-room : lentFault schedule lent (freshMarks 81) ≡ 0
   unfolding freshMarks
-  fresh-room = has-room (freshMarks 81) (kinds-length 81 (λ m. notJudged), places-length 81 (λ m. notJudged))
+  fresh-room = has-room (freshMarks 81) (marks-long 81 (λ m. notJudged))
 
   pub own-judge : {r : Verdict} (s : List ℕ) → r ≡ verdictOf (judgedIn schedule s lent (freshMarks 81)) → r ≡ verdictOf (judgement schedule s)
   own-judge s e = e ∙ ap verdictOf (lent-judge schedule lent (freshMarks 81) fresh-room s)
 
-  module _ (s : List ℕ) (k : ℕ) (f : File) (handed : Marks) (long : Of81 handed) where
+  module _ (s : List ℕ) (k : ℕ) (f : File) (handed : Marks) (long : Long 81 handed) where
     pub own-try : {r : Verdict} → r ≡ verdictOf (triedIn schedule s k f lent handed) → r ≡ verdictOf (tried schedule s k f handed)
     own-try e = e ∙ ap verdictOf (lent-try schedule lent handed (has-room handed long) s k f)
 

@@ -31,8 +31,20 @@ pub fn judge_in(bundle: &[u8], work: &mut [u32]) -> Verdict
 {
     let mut kinds = [2u32; 81];
     let mut places = [0usize; 81];
-    let made = judge_lists(Which::Schedule, bundle, work, &mut kinds, &mut places);
-    let board = Board { kinds, places };
+    let mut companions = [0usize; 81];
+    let made = judge_lists(
+        Which::Schedule,
+        bundle,
+        work,
+        &mut kinds,
+        &mut places,
+        &mut companions,
+    );
+    let board = Board {
+        kinds,
+        places,
+        companions,
+    };
     Verdict {
         refusal: made.refusal,
         length: made.length,
@@ -63,6 +75,7 @@ pub fn try_in<'a>(
 {
     let mut kinds = board.kinds;
     let mut places = board.places;
+    let mut companions = board.companions;
     let made = try_lists(
         Which::Schedule,
         bundle,
@@ -72,8 +85,13 @@ pub fn try_in<'a>(
         work,
         &mut kinds,
         &mut places,
+        &mut companions,
     );
-    let board = Board { kinds, places };
+    let board = Board {
+        kinds,
+        places,
+        companions,
+    };
     Verdict {
         refusal: made.refusal,
         length: made.length,
@@ -112,6 +130,7 @@ pub fn make_in<'a>(
 {
     let mut kinds = board.kinds;
     let mut places = board.places;
+    let mut companions = board.companions;
     let made = make_lists(
         Which::Schedule,
         bundle,
@@ -122,8 +141,13 @@ pub fn make_in<'a>(
         work,
         &mut kinds,
         &mut places,
+        &mut companions,
     );
-    let board = Board { kinds, places };
+    let board = Board {
+        kinds,
+        places,
+        companions,
+    };
     Verdict {
         refusal: made.refusal,
         length: made.length,

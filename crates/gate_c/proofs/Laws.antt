@@ -1,49 +1,71 @@
--- What the calls need: a call's own fault, what a call answers with one and without, and a workspace of its own.
+-- What the calls over a board need: a call's own fault, what a call with a change answers with one and without, the text, and a
+-- fresh board.
 -- Assumes nothing.
 use Prim.Native.Nat.{ℕ, _≤_, _<_}
 use mathlib.Core.Path.{_≡_, refl, sym, ap, _∙_}
-use mathlib.Core.Bool.{Bool, true, false, cond, _||_}
+use mathlib.Core.Bool.{Bool, true, false, cond, not, _&&_}
 use mathlib.Core.List.{List, _++_}
 use native.Mathlib.Omega.{arith}
 use borrow.Author.Tests.{eqb-true, eq-eqb, ne-eqb, lt-ltb, le-ltb}
-use lib.ListN.{length, set, drop, replicate, length-replicate}
+use lib.ListN.{length, set, drop}
 use lib.Dec.{eqb, ltb}
-use Rattle.mark_numbers.specs.Marks.{Marks, marksIn}
-use Rattle.bundle_bytes.specs.Words.{wordAt}
-use Rattle.bundle_layout.specs.Bundle.{headerSize, laidOut, bundleFault, lookupFault}
+use Rattle.mark_numbers.specs.Marks.{Marks, haveLength, freshMarks}
+use Rattle.mark_numbers.proofs.Laws.{lists-long, lists-wrong, lists-right}
 use Rattle.bundle_layout.specs.Change.{filesAfter}
 use Rattle.bundle.specs.declared.Made.{Made}
 use Rattle.gate_marks.specs.declared.Scope.the-variants.{Change}
-use Rattle.gate_marks.specs.Again.{hasLists, workspaceOf}
-use Rattle.gate_calls.specs.Calls.{Answer, answer}
+use Rattle.gate_marks.specs.Again.{hasLists}
+use Rattle.gate_calls.specs.Calls.{Answer}
 use Rattle.gate_calls.specs.Lent.{judgedIn, triedIn, madeIn, outputIn, judgeLeft, changeLeft}
 use Rattle.schedule.specs.Schedule.{schedule}
-use Rattle.schedule.proofs.Laws.{marks-are, workspace-is}
+use Rattle.schedule.proofs.Laws.{marks-are}
 use Rattle.gate_lists.specs.declared.Which.the-variants.{Schedule}
 use Rattle.gate_lists.specs.Which.{gateCalled, madeOf}
 use Rattle.gate_lists.proofs.Answers.{work-untouched}
 use Rattle.report.specs.Report.{textIn}
-use Rattle.gate_c.specs.Calls.{callFault, makeCallFault, called, fileHanded, tryCalled, makeCalled, outputCalled, sizeCalled, textCalled}
+use Rattle.gate_c.specs.Calls.{unlessRefused, callFault, called, fileHanded, tryCalled, makeCalled, outputCalled, sizeAfter, textCalled, freshFault, freshCalled}
+
+-- ---- the lists of a board, by the test that the code makes
+module _ (handed : Marks) {t : Bool} (t-is : t ≡ haveLength 81 handed) where
+  board-is : haveLength 81 handed ≡ hasLists schedule handed
+  unfolding hasLists
+  board-is = ap (λ n. haveLength n handed) (sym marks-are)
+
+  pub board-wrong : not t ≡ true → hasLists schedule handed ≡ false
+  board-wrong e = sym board-is ∙ lists-wrong 81 handed t-is e
+
+  pub board-right : not t ≡ false → hasLists schedule handed ≡ true
+  board-right e = sym board-is ∙ lists-right 81 handed t-is e
 
 -- ---- a call's own fault
-module _ (kinds places : List ℕ) (present : ℕ) where
-  pub fault-kinds : (length kinds ≡ 81 → ⊥) → 100 ≡ callFault schedule (marksIn kinds places) present
-  unfolding callFault hasLists
-  fault-kinds n = rw (marks-are, ne-eqb (length kinds) 81 n)
+module _ (handed : Marks) (size : List ℕ) (present : ℕ) where
+  pub fault-board : hasLists schedule handed ≡ false → 100 ≡ callFault schedule handed size present
+  unfolding callFault
+  fault-board e = rw e
 
-  module _ (k : length kinds ≡ 81) where
-    pub fault-places : (length places ≡ 81 → ⊥) → 100 ≡ callFault schedule (marksIn kinds places) present
-    unfolding callFault hasLists
-    fault-places n = rw (marks-are, eq-eqb (length kinds) 81 k, ne-eqb (length places) 81 n)
+  module _ (right : hasLists schedule handed ≡ true) where
+    pub fault-size : (length size ≡ 1 → ⊥) → 100 ≡ callFault schedule handed size present
+    unfolding callFault
+    fault-size n = rw (right, ne-eqb (length size) 1 n)
 
-    module _ (p : length places ≡ 81) where
-      pub fault-present : 1 < present → 101 ≡ callFault schedule (marksIn kinds places) present
-      unfolding callFault hasLists
-      fault-present l = rw (marks-are, eq-eqb (length kinds) 81 k, eq-eqb (length places) 81 p, lt-ltb 1 present l)
+    module _ (one : length size ≡ 1) where
+      pub fault-present : 1 < present → 101 ≡ callFault schedule handed size present
+      unfolding callFault
+      fault-present l = rw (right, eq-eqb (length size) 1 one, lt-ltb 1 present l)
 
-      pub fault-none : present ≤ 1 → 0 ≡ callFault schedule (marksIn kinds places) present
-      unfolding callFault hasLists
-      fault-none l = rw (marks-are, eq-eqb (length kinds) 81 k, eq-eqb (length places) 81 p, le-ltb 1 present l)
+      pub fault-none : present ≤ 1 → 0 ≡ callFault schedule handed size present
+      unfolding callFault
+      fault-none l = rw (right, eq-eqb (length size) 1 one, le-ltb 1 present l)
+
+  -- a call without one has a list of 1 for the length
+  pub size-fits : {f : ℕ} → f ≡ callFault schedule handed size present → f ≡ 0 → length size ≡ 1
+  unfolding callFault
+  size-fits is none = go (hasLists schedule handed) (eqb (length size) 1) (cond (ltb 1 present) 101 0) refl (sym is ∙ none)
+    where
+      go : (t u : Bool) (x : ℕ) → eqb (length size) 1 ≡ u → cond (t && u) x 100 ≡ 0 → length size ≡ 1
+      go true true x e z = eqb-true (length size) 1 e
+      go true false x e z = absurd (omega arith)
+      go false u x e z = absurd (omega arith)
 
 -- ---- a judgement by the gate of document 01, whose refusal alone is answered
 module _ (s : List ℕ) (handed : Marks) (work : List ℕ) where
@@ -53,112 +75,116 @@ module _ (s : List ℕ) (handed : Marks) (work : List ℕ) where
   unfolding gateCalled madeOf
   judge-called (m, (b, w)) = (ap (λ x. x .refusal) m, (b, w))
 
--- ---- what a call with a change answers with a fault of its own
-module _ (fault : ℕ) {f : ℕ} (is : f ≡ fault) (some : f ≡ 0 → ⊥) where
-  is-some : eqb fault 0 ≡ false
-  is-some = ne-eqb fault 0 (λ q. some (is ∙ q))
+-- ---- a list where a call is refused, and where it isn't
+module _ (new old : List ℕ) (refusal : ℕ) where
+  pub kept : (refusal ≡ 0 → ⊥) → unlessRefused refusal new old ≡ old
+  unfolding unlessRefused
+  kept some = rw (ne-eqb refusal 0 some)
 
-  called-ill : (handed : Marks) (whole : Answer) → called fault handed whole ≡ answer f 0 handed
-  unfolding called
-  called-ill handed whole = rw (is-some, is)
+  pub replaced : refusal ≡ 0 → unlessRefused refusal new old ≡ new
+  unfolding unlessRefused
+  replaced none = rw (eq-eqb refusal 0 none)
 
--- ---- and without
-module _ (fault : ℕ) {f : ℕ} (is : f ≡ fault) (none : f ≡ 0) where
-  is-none : eqb fault 0 ≡ true
-  is-none = eq-eqb fault 0 (sym is ∙ none)
+-- ---- what a call with a change answers, and the length that it puts down
+module _ (fault : ℕ) (handed : Marks) (whole : Answer) (size : List ℕ) {f : ℕ} (is : f ≡ fault) where
+  Ends : ℕ → Marks → List ℕ → Type 0
+  Ends r marks last =
+      (r ≡ called fault handed whole .refusal) × ((marks ≡ called fault handed whole .marks) × (last ≡ sizeAfter (called fault handed whole) size))
 
-  called-well : (handed : Marks) (whole : Answer) → called fault handed whole ≡ whole
-  unfolding called
-  called-well handed whole = rw is-none
+  -- with a fault of its own
+  ends-ill : (f ≡ 0 → ⊥) → Ends f handed size
+  unfolding Ends called sizeAfter
+  ends-ill some = rw (← is, ne-eqb f 0 some) (refl, (refl, sym (kept (set size 0 0) size f some)))
 
-module _ (s : List ℕ) (file present : ℕ) (bytes : List ℕ) (handed : Marks) (work : List ℕ) where
-  untouched : (f : ℕ) → (f ≡ 0 → ⊥) → work ≡ changeLeft schedule s file (fileHanded present bytes) f work
+  -- and without
+  ends-well : f ≡ 0 → {made : Made} {r : ℕ} {marks : Marks} {last : List ℕ} → made ≡ madeOf whole → marks ≡ whole .marks → r ≡ made .refusal → last ≡ unlessRefused (made .refusal) (set size 0 (made .length)) size → Ends r marks last
+  unfolding Ends called sizeAfter madeOf
+  ends-well none m b r-is last-is =
+      rw (← is, eq-eqb f 0 none) (r-is ∙ ap (λ x. x .refusal) m, (b, last-is ∙ ap (λ x. unlessRefused (x .refusal) (set size 0 (x .length)) size) m))
+
+module _ (s : List ℕ) (file present : ℕ) (bytes : List ℕ) (handed : Marks) (size work : List ℕ) {f : ℕ} (is : f ≡ callFault schedule handed size present) where
+  abbrev Left : ℕ → List ℕ → Type 0
+  Left r last = last ≡ changeLeft schedule s file (fileHanded present bytes) r work
+
+  untouched : (f ≡ 0 → ⊥) → Left f work
   unfolding changeLeft
-  untouched f some = work-untouched schedule (Change file) (filesAfter s file (fileHanded present bytes)) work f some
+  untouched some = work-untouched schedule (Change file) (filesAfter s file (fileHanded present bytes)) work f some
 
-  module _ {f : ℕ} (is : f ≡ callFault schedule handed present) where
-    pub try-ill : (f ≡ 0 → ⊥)
-        → (f ≡ tryCalled schedule s file present bytes (length work) handed .refusal) × ((handed ≡ tryCalled schedule s file present bytes (length work) handed .marks) × (work ≡ changeLeft schedule s file (fileHanded present bytes) f work))
-    unfolding tryCalled
+  -- ---- a try
+  module _ where
+    abbrev tried : Answer
+    tried = tryCalled schedule s file present bytes size (length work) handed
+
+    abbrev Tried : ℕ → Marks → List ℕ → List ℕ → Type 0
+    Tried r marks last left = (r ≡ tried .refusal) × ((marks ≡ tried .marks) × ((last ≡ sizeAfter tried size) × Left r left))
+
+    pub try-ill : (f ≡ 0 → ⊥) → Tried f handed size work
+    unfolding tryCalled Ends
     try-ill some =
-        let e = called-ill _ is some handed (triedIn schedule s file (fileHanded present bytes) (length work) handed) in
-        (sym (ap (λ x. x .refusal) e), (sym (ap (λ x. x .marks) e), untouched f some))
+        let e = ends-ill (callFault schedule handed size present) handed (triedIn schedule s file (fileHanded present bytes) (length work) handed) size is some in
+        (e .0, (e .1 .0, (e .1 .1, untouched some)))
 
-    pub try-well : f ≡ 0 → {made : Made} {marks : Marks} {last : List ℕ}
-        → (made ≡ madeOf (triedIn (gateCalled Schedule) s file (fileHanded present bytes) (length work) handed)) × ((marks ≡ triedIn (gateCalled Schedule) s file (fileHanded present bytes) (length work) handed .marks) × (last ≡ changeLeft (gateCalled Schedule) s file (fileHanded present bytes) (made .refusal) work))
-        → (made .refusal ≡ tryCalled schedule s file present bytes (length work) handed .refusal) × ((marks ≡ tryCalled schedule s file present bytes (length work) handed .marks) × (last ≡ changeLeft schedule s file (fileHanded present bytes) (made .refusal) work))
-    unfolding tryCalled gateCalled madeOf
-    try-well none (m, (b, w)) =
-        let e = called-well _ is none handed (triedIn schedule s file (fileHanded present bytes) (length work) handed) in
-        (ap (λ x. x .refusal) m ∙ sym (ap (λ x. x .refusal) e), (b ∙ sym (ap (λ x. x .marks) e), w))
+    pub try-well : f ≡ 0 → {made : Made} {r : ℕ} {marks : Marks} {last left : List ℕ}
+        → (made ≡ madeOf (triedIn (gateCalled Schedule) s file (fileHanded present bytes) (length work) handed)) × ((marks ≡ triedIn (gateCalled Schedule) s file (fileHanded present bytes) (length work) handed .marks) × (left ≡ changeLeft (gateCalled Schedule) s file (fileHanded present bytes) (made .refusal) work))
+        → (r ≡ made .refusal) × (last ≡ unlessRefused (made .refusal) (set size 0 (made .length)) size)
+        → Tried r marks last left
+    unfolding tryCalled Ends gateCalled
+    try-well none (m, (b, w)) (r-is, last-is) =
+        let e = ends-well (callFault schedule handed size present) handed (triedIn schedule s file (fileHanded present bytes) (length work) handed) size is none m b r-is last-is in
+        (e .0, (e .1 .0, (e .1 .1, w ∙ ap (λ x. changeLeft schedule s file (fileHanded present bytes) x work) (sym r-is))))
 
-  module _ (out size : List ℕ) {f : ℕ} (is : f ≡ makeCallFault schedule handed present size) where
-    -- a call without one has a list of 1 for the length
-    pub size-fits : f ≡ 0 → length size ≡ 1
-    unfolding makeCallFault
-    size-fits none = go (eqb (length size) 1) refl (sym is ∙ none)
-      where
-        go : (t : Bool) → eqb (length size) 1 ≡ t → cond t (callFault schedule handed present) 100 ≡ 0 → length size ≡ 1
-        go true e z = eqb-true (length size) 1 e
-        go false e z = absurd (omega arith)
+  -- ---- a change made
+  module _ (out : List ℕ) where
+    abbrev changed : Answer
+    changed = makeCalled schedule s file present bytes (length out) size (length work) handed
 
-    pub make-ill : (f ≡ 0 → ⊥)
-        → (f ≡ makeCalled schedule s file present bytes (length out) size (length work) handed .refusal) × ((handed ≡ makeCalled schedule s file present bytes (length out) size (length work) handed .marks) × ((out ≡ outputCalled schedule s file present bytes out size (length work) handed) × ((size ≡ sizeCalled schedule s file present bytes (length out) size (length work) handed) × (work ≡ changeLeft schedule s file (fileHanded present bytes) f work))))
-    unfolding makeCalled outputCalled sizeCalled
+    abbrev Changed : ℕ → Marks → List ℕ → List ℕ → List ℕ → Type 0
+    Changed r marks written last left =
+        (r ≡ changed .refusal) × ((marks ≡ changed .marks) × ((written ≡ outputCalled schedule s file present bytes out size (length work) handed) × ((last ≡ sizeAfter changed size) × Left r left)))
+
+    pub make-ill : (f ≡ 0 → ⊥) → Changed f handed out size work
+    unfolding makeCalled outputCalled Ends
     make-ill some =
-        let e = called-ill _ is some handed (madeIn schedule s file (fileHanded present bytes) (length out) (length work) handed) in
-        (sym (ap (λ x. x .refusal) e), (sym (ap (λ x. x .marks) e), (rw (is-some _ is some), (rw (is-some _ is some), untouched f some))))
+        let e = ends-ill (callFault schedule handed size present) handed (madeIn schedule s file (fileHanded present bytes) (length out) (length work) handed) size is some in
+        (e .0, (e .1 .0, (sym (kept _ out _ (λ z. some (is ∙ z))), (e .1 .1, untouched some))))
 
-    pub make-well : f ≡ 0 → {made : Made} {marks : Marks} {written last : List ℕ}
-        → (made ≡ madeOf (madeIn (gateCalled Schedule) s file (fileHanded present bytes) (length out) (length work) handed)) × ((marks ≡ madeIn (gateCalled Schedule) s file (fileHanded present bytes) (length out) (length work) handed .marks) × ((written ≡ outputIn (gateCalled Schedule) s file (fileHanded present bytes) (length work) handed out) × (last ≡ changeLeft (gateCalled Schedule) s file (fileHanded present bytes) (made .refusal) work)))
-        → (made .refusal ≡ makeCalled schedule s file present bytes (length out) size (length work) handed .refusal) × ((marks ≡ makeCalled schedule s file present bytes (length out) size (length work) handed .marks) × ((written ≡ outputCalled schedule s file present bytes out size (length work) handed) × ((set size 0 (made .length) ≡ sizeCalled schedule s file present bytes (length out) size (length work) handed) × (last ≡ changeLeft schedule s file (fileHanded present bytes) (made .refusal) work))))
-    unfolding makeCalled outputCalled sizeCalled gateCalled madeOf
-    make-well none (m, (b, (o, w))) =
-        let e = called-well _ is none handed (madeIn schedule s file (fileHanded present bytes) (length out) (length work) handed) in
-        (ap (λ x. x .refusal) m ∙ sym (ap (λ x. x .refusal) e), (b ∙ sym (ap (λ x. x .marks) e), (rw (is-none _ is none) o, (rw (is-none _ is none) (ap (λ x. set size 0 (x .length)) m), w))))
-
--- ---- a workspace of a call's own is as long as it has to be: what it answers in it, from what it answers in a lent one
-abbrev own : List ℕ
-own = replicate 794702 0
-
-pub own-long : length own ≡ 794702
-own-long = length-replicate {A = ℕ} 794702 0
-
-pub in-own : {A : Type 0} (of : ℕ → A) {x : A} → x ≡ of (length own) → x ≡ of (workspaceOf schedule)
-in-own of e = e ∙ ap of (own-long ∙ sym workspace-is)
+    pub make-well : f ≡ 0 → {made : Made} {r : ℕ} {marks : Marks} {written last left : List ℕ}
+        → (made ≡ madeOf (madeIn (gateCalled Schedule) s file (fileHanded present bytes) (length out) (length work) handed)) × ((marks ≡ madeIn (gateCalled Schedule) s file (fileHanded present bytes) (length out) (length work) handed .marks) × ((written ≡ outputIn (gateCalled Schedule) s file (fileHanded present bytes) (length work) handed out) × (left ≡ changeLeft (gateCalled Schedule) s file (fileHanded present bytes) (made .refusal) work)))
+        → (r ≡ made .refusal) × (last ≡ unlessRefused (made .refusal) (set size 0 (made .length)) size)
+        → Changed r marks written last left
+    unfolding makeCalled outputCalled Ends gateCalled
+    make-well none (m, (b, (o, w))) (r-is, last-is) =
+        let e = ends-well (callFault schedule handed size present) handed (madeIn schedule s file (fileHanded present bytes) (length out) (length work) handed) size is none m b r-is last-is in
+        (e .0, (e .1 .0, (o ∙ sym (replaced _ out _ (sym is ∙ none)), (e .1 .1, w ∙ ap (λ x. changeLeft schedule s file (fileHanded present bytes) x work) (sym r-is)))))
 
 -- ---- the text
-module _ (refusal : ℕ) (handed : Marks) (out : List ℕ) {f : ℕ} (is : f ≡ callFault schedule handed 0) where
-  pub text-ill : (f ≡ 0 → ⊥) → (0 ≡ length (textCalled schedule refusal handed (length out))) × (out ≡ textCalled schedule refusal handed (length out) ++ drop (length (textCalled schedule refusal handed (length out))) out)
+module _ (refusal : ℕ) (handed : Marks) (out : List ℕ) where
+  abbrev Text : ℕ → List ℕ → Type 0
+  Text r last =
+      (r ≡ length (textCalled schedule refusal handed (length out))) × (last ≡ textCalled schedule refusal handed (length out) ++ drop (length (textCalled schedule refusal handed (length out))) out)
+
+  pub text-ill : hasLists schedule handed ≡ false → Text 0 out
   unfolding textCalled
-  text-ill some = rw (is-some _ is some) (refl, refl)
+  text-ill e = rw e (refl, refl)
 
-  pub text-well : f ≡ 0 → {r : ℕ} {last : List ℕ} → r ≡ length (textIn refusal handed (length out)) → last ≡ textIn refusal handed (length out) ++ drop (length (textIn refusal handed (length out))) out
-      → (r ≡ length (textCalled schedule refusal handed (length out))) × (last ≡ textCalled schedule refusal handed (length out) ++ drop (length (textCalled schedule refusal handed (length out))) out)
+  pub text-well : hasLists schedule handed ≡ true → {r : ℕ} {last : List ℕ} → r ≡ length (textIn refusal handed (length out)) → last ≡ textIn refusal handed (length out) ++ drop (length (textIn refusal handed (length out))) out → Text r last
   unfolding textCalled
-  text-well none r-is last-is = rw (is-none _ is none) (r-is, last-is)
+  text-well e r-is last-is = rw e (r-is, last-is)
 
--- ---- a file asked for by number
-up-to : (t : Bool) (a b n : ℕ) → a ≤ n → b ≤ n → cond t a b ≤ n
-up-to true a b n l m = l
-up-to false a b n l m = m
+-- ---- a fresh board
+module _ (handed : Marks) where
+  abbrev Fresh : ℕ → Marks → Type 0
+  Fresh r last = (r ≡ freshFault schedule handed) × (last ≡ freshCalled schedule handed)
 
-lookup-small : (s : List ℕ) (k : ℕ) → lookupFault 20 s k ≤ 4
-unfolding lookupFault bundleFault
-lookup-small s k =
-    let fault : bundleFault 20 s ≤ 4 = up-to (ltb (length s) (headerSize 20) || ltb 1048576 (length s)) 1 _ 4 (omega arith) (up-to (eqb (wordAt s 0) 20) _ 2 4 (up-to (laidOut 20 s) 0 3 4 (omega arith) (omega arith)) (omega arith)) in
-    up-to (eqb (bundleFault 20 s) 0) (cond (ltb k 20) 0 4) (bundleFault 20 s) 4 (up-to (ltb k 20) 0 4 4 (omega arith) (omega arith)) fault
+  pub fresh-ill : hasLists schedule handed ≡ false → Fresh 100 handed
+  unfolding freshFault freshCalled
+  fresh-ill e = rw e (refl, refl)
 
-pub refusal-small : (s : List ℕ) (k r : ℕ) → r ≡ lookupFault 20 s k → r ≤ 4
-refusal-small s k r e = omega (arith, e, lookup-small s k)
+  -- lists of one length, as the call below asks for
+  pub fresh-fits : haveLength 81 handed ≡ true → haveLength (length (handed .kinds)) handed ≡ true
+  fresh-fits e = rw (lists-long 81 handed e .kinds-long) e
 
-module _ (place : List ℕ) where
-  pub place-ill : (length place ≡ 2 → ⊥) → (x : ℕ) (y : List ℕ) → (100 ≡ cond (eqb (length place) 2) x 100) × (place ≡ cond (eqb (length place) 2) y place)
-  place-ill n x y =
-      let e : eqb (length place) 2 ≡ false = ne-eqb _ 2 n in
-      (rw e refl, rw e refl)
-
-  pub place-well : length place ≡ 2 → (x : ℕ) (start : ℕ) (part : List ℕ) (r from : ℕ) (bytes : List ℕ) → r ≡ x → from ≡ start → bytes ≡ part → (r ≡ cond (eqb (length place) 2) x 100) × (set (set place 0 from) 1 (length bytes) ≡ cond (eqb (length place) 2) (set (set place 0 start) 1 (length part)) place)
-  place-well n x start part r from bytes r-is from-is bytes-are =
-      let e : eqb (length place) 2 ≡ true = eq-eqb _ 2 n in
-      (rw e r-is, rw e (ap (λ k. set (set place 0 k) 1 (length bytes)) from-is ∙ ap (λ xs. set (set place 0 start) 1 (length xs)) bytes-are))
+  pub fresh-well : haveLength 81 handed ≡ true → {last : Marks} → last ≡ freshMarks (length (handed .kinds)) → Fresh 0 last
+  unfolding freshFault freshCalled hasLists
+  fresh-well e last-is =
+      rw (marks-are, e) (refl, last-is ∙ ap freshMarks (lists-long 81 handed e .kinds-long))

@@ -1,2 +1,2 @@
--- What the proofs of several functions use.
-mod Laws
+pub mod Laws
+pub mod Files

@@ -1,38 +1,47 @@
-// The gate for programs in other languages: numbers and lent lists in, a number out. A call whose
-// lists have wrong lengths answers 100 and writes nothing. The calls that end in `_in` judge in the
-// lent workspace `work`, for callers whose stack is small: one that is too short is refused as 14,
-// and what any of them leaves in it may be lent again. The others are the same over memory of their own.
+// The gate for programs in other languages: numbers and lent lists in, a number out. A board is three
+// lists of 81. A call whose lists have other lengths than they must have answers 100 and writes
+// nothing. Judging, trying and making are done in the lent workspace `work`: one that is too short is
+// refused as 14, and what they leave in it may be lent again.
 ghost use mathlib.Core.Path.{_≡_};
-ghost use mathlib.Core.Bool.{cond};
 ghost use mathlib.Core.List.{_++_};
 ghost use lib.ListN.{length, drop, set};
-ghost use lib.Dec.{eqb};
-ghost use Rattle.mark_numbers.specs.Marks.{marksIn};
-ghost use Rattle.bundle_layout.specs.Bundle.{partAsked};
-ghost use Rattle.bundle.specs.Answers.{stateAsked};
-ghost use Rattle.gate_marks.specs.Again.{workspaceOf};
+ghost use Rattle.mark_numbers.specs.Marks.{marksIn, faultsIn};
+ghost use Rattle.bundle_bytes.specs.Pieces.{written};
+ghost use Rattle.bundle_layout.specs.Put.{emptyBundle};
 ghost use Rattle.gate_calls.specs.Lent.{judgedIn, judgeLeft, changeLeft};
 ghost use Rattle.schedule.specs.Schedule.{schedule};
-ghost use Rattle.report.specs.Report.{textIn};
-ghost use Rattle.gate_c.specs.Calls.{callFault, makeCallFault, fileHanded, tryCalled, makeCalled, outputCalled, sizeCalled, textCalled, stateNumber, startAsked};
-use bundle::file_part;
+ghost use Rattle.gate_c.specs.Calls.{unlessRefused, callFault, fileHanded, tryCalled, makeCalled, outputCalled, sizeAfter, textCalled, freshFault, freshCalled, fileFault, presentNumber, placeOf, nameOf, lengthIn};
+use bundle::Made;
 use bundle::is_omitted;
+use bundle::length_at;
 use bundle::lookup_fault;
-use bundle_bytes::word_at;
+use bundle::offset_at;
+use bundle_bytes::put_part;
+use file_names::put_path;
 use gate_lists::Which;
 use gate_lists::judge_lists;
 use gate_lists::make_lists;
 use gate_lists::try_lists;
+use mark_numbers::count_faults;
+use mark_numbers::have_length;
+use mark_numbers::make_fresh;
+use parts::part;
 use report::report;
 
-// What is wrong with a call's own lists and numbers, 100 or 101, or 0.
-fn call_fault(kinds: &[u32], places: &[usize], present: u32) -> u32
-    ensures { λ r. ⌜ r ≡ callFault schedule (marksIn (now (kinds .entry)) (now (places .entry))) present ⌝ }
+// What is wrong with the lists and numbers of a call with a change, 100 or 101, or 0.
+fn call_fault(
+    kinds: &[u32],
+    places: &[usize],
+    companions: &[usize],
+    size: &[usize],
+    present: u32,
+) -> u32
+    ensures { λ r. ⌜ r ≡ callFault schedule (marksIn (now (kinds .entry)) (now (places .entry)) (now (companions .entry))) (now (size .entry)) present ⌝ }
 {
-    if kinds.len() != 81 {
+    if !have_length(81, kinds, places, companions) {
         return 100;
     }
-    if places.len() != 81 {
+    if size.len() != 1 {
         return 100;
     }
     if 1 < present {
@@ -41,62 +50,61 @@ fn call_fault(kinds: &[u32], places: &[usize], present: u32) -> u32
     0
 }
 
-fn make_call_fault(kinds: &[u32], places: &[usize], present: u32, size: &[usize]) -> u32
-    ensures { λ r. ⌜ r ≡ makeCallFault schedule (marksIn (now (kinds .entry)) (now (places .entry))) present (now (size .entry)) ⌝ }
+// Puts down how long the new bundle is, unless the change is refused; answers the refusal.
+fn put_size(made: Made, size: &mut [usize]) -> u32
+    requires { ⌜ length (now size) ≡ 1 ⌝ }
+    ensures { λ r. ⌜ r ≡ made .refusal ⌝ }
+    ensures { λ _. ⌜ now (size .exit) ≡ unlessRefused (made .refusal) (set (now (size .entry)) 0 (made .length)) (now (size .entry)) ⌝ }
 {
-    if size.len() != 1 {
-        return 100;
+    let refusal = made.refusal;
+    if refusal != 0 {
+        return refusal;
     }
-    call_fault(kinds, places, present)
+    size[0] = made.length;
+    0
 }
 
-// Judges a bundle in full in a lent workspace, whatever that holds: the refusal or 0; the marks go to
-// the two lists.
+// Judges a bundle in full: the refusal or 0; its marks go to the board.
 #[no_mangle]
-pub extern "C" fn knotsaddle_judge_in(
+pub extern "C" fn knotsaddle_judge(
     bundle: &[u8],
     kinds: &mut [u32],
     places: &mut [usize],
+    companions: &mut [usize],
     work: &mut [u32],
 ) -> u32
-    ensures { λ r. ⌜ r ≡ judgedIn schedule (now (bundle .entry)) (length (now (work .entry))) (marksIn (now (kinds .entry)) (now (places .entry))) .refusal ⌝ }
-    ensures { λ _. ⌜ marksIn (now (kinds .exit)) (now (places .exit)) ≡ judgedIn schedule (now (bundle .entry)) (length (now (work .entry))) (marksIn (now (kinds .entry)) (now (places .entry))) .marks ⌝ }
+    ensures { λ r. ⌜ r ≡ judgedIn schedule (now (bundle .entry)) (length (now (work .entry))) (marksIn (now (kinds .entry)) (now (places .entry)) (now (companions .entry))) .refusal ⌝ }
+    ensures { λ _. ⌜ marksIn (now (kinds .exit)) (now (places .exit)) (now (companions .exit)) ≡ judgedIn schedule (now (bundle .entry)) (length (now (work .entry))) (marksIn (now (kinds .entry)) (now (places .entry)) (now (companions .entry))) .marks ⌝ }
     ensures { λ r. ⌜ now (work .exit) ≡ judgeLeft schedule (now (bundle .entry)) r (now (work .entry)) ⌝ }
 {
-    judge_lists(Which::Schedule, bundle, work, kinds, places).refusal
+    judge_lists(Which::Schedule, bundle, work, kinds, places, companions).refusal
 }
 
-// Judges a bundle in full.
+// Tries a change of a file, to new bytes where `present` is 1 and to none where it is 0; the board that
+// was handed in gives way to the one that comes back. `size` gets the length that the new bundle would
+// have.
 #[no_mangle]
-pub extern "C" fn knotsaddle_judge(bundle: &[u8], kinds: &mut [u32], places: &mut [usize]) -> u32
-    ensures { λ r. ⌜ r ≡ judgedIn schedule (now (bundle .entry)) (workspaceOf schedule) (marksIn (now (kinds .entry)) (now (places .entry))) .refusal ⌝ }
-    ensures { λ _. ⌜ marksIn (now (kinds .exit)) (now (places .exit)) ≡ judgedIn schedule (now (bundle .entry)) (workspaceOf schedule) (marksIn (now (kinds .entry)) (now (places .entry))) .marks ⌝ }
-{
-    let mut work = [0u32; 794702];
-    knotsaddle_judge_in(bundle, kinds, places, &mut work)
-}
-
-// Tries a change of a file in a lent workspace, to new bytes where `present` is 1 and to none where it
-// is 0; the marks that were handed in give way to those that come back.
-#[no_mangle]
-pub extern "C" fn knotsaddle_try_in<'a>(
+pub extern "C" fn knotsaddle_try<'a>(
     bundle: &'a [u8],
     kinds: &mut [u32],
     places: &mut [usize],
+    companions: &mut [usize],
     file: usize,
     present: u32,
     new_bytes: &'a [u8],
+    size: &mut [usize],
     work: &mut [u32],
 ) -> u32
-    ensures { λ r. ⌜ r ≡ tryCalled schedule (now (bundle .entry)) file present (now («new_bytes» .entry)) (length (now (work .entry))) (marksIn (now (kinds .entry)) (now (places .entry))) .refusal ⌝ }
-    ensures { λ _. ⌜ marksIn (now (kinds .exit)) (now (places .exit)) ≡ tryCalled schedule (now (bundle .entry)) file present (now («new_bytes» .entry)) (length (now (work .entry))) (marksIn (now (kinds .entry)) (now (places .entry))) .marks ⌝ }
+    ensures { λ r. ⌜ r ≡ tryCalled schedule (now (bundle .entry)) file present (now («new_bytes» .entry)) (now (size .entry)) (length (now (work .entry))) (marksIn (now (kinds .entry)) (now (places .entry)) (now (companions .entry))) .refusal ⌝ }
+    ensures { λ _. ⌜ marksIn (now (kinds .exit)) (now (places .exit)) (now (companions .exit)) ≡ tryCalled schedule (now (bundle .entry)) file present (now («new_bytes» .entry)) (now (size .entry)) (length (now (work .entry))) (marksIn (now (kinds .entry)) (now (places .entry)) (now (companions .entry))) .marks ⌝ }
+    ensures { λ _. ⌜ now (size .exit) ≡ sizeAfter (tryCalled schedule (now (bundle .entry)) file present (now («new_bytes» .entry)) (now (size .entry)) (length (now (work .entry))) (marksIn (now (kinds .entry)) (now (places .entry)) (now (companions .entry)))) (now (size .entry)) ⌝ }
     ensures { λ r. ⌜ now (work .exit) ≡ changeLeft schedule (now (bundle .entry)) file (fileHanded present (now («new_bytes» .entry))) r (now (work .entry)) ⌝ }
 {
-    let fault = call_fault(kinds, places, present);
+    let fault = call_fault(kinds, places, companions, size, present);
     if fault != 0 {
         return fault;
     }
-    try_lists(
+    let tried = try_lists(
         Which::Schedule,
         bundle,
         file,
@@ -105,33 +113,19 @@ pub extern "C" fn knotsaddle_try_in<'a>(
         work,
         kinds,
         places,
-    ).refusal
+        companions,
+    );
+    put_size(tried, size)
 }
 
-// Tries a change.
+// Makes a change, handed over as to `knotsaddle_try`: the new bundle goes to the front of `out`, its
+// length to `size`.
 #[no_mangle]
-pub extern "C" fn knotsaddle_try<'a>(
+pub extern "C" fn knotsaddle_make<'a>(
     bundle: &'a [u8],
     kinds: &mut [u32],
     places: &mut [usize],
-    file: usize,
-    present: u32,
-    new_bytes: &'a [u8],
-) -> u32
-    ensures { λ r. ⌜ r ≡ tryCalled schedule (now (bundle .entry)) file present (now («new_bytes» .entry)) (workspaceOf schedule) (marksIn (now (kinds .entry)) (now (places .entry))) .refusal ⌝ }
-    ensures { λ _. ⌜ marksIn (now (kinds .exit)) (now (places .exit)) ≡ tryCalled schedule (now (bundle .entry)) file present (now («new_bytes» .entry)) (workspaceOf schedule) (marksIn (now (kinds .entry)) (now (places .entry))) .marks ⌝ }
-{
-    let mut work = [0u32; 794702];
-    knotsaddle_try_in(bundle, kinds, places, file, present, new_bytes, &mut work)
-}
-
-// Makes a change, handed over as to `knotsaddle_try_in`: the new bundle goes to the front of `out`, its
-// length (0 if refused) to `size`.
-#[no_mangle]
-pub extern "C" fn knotsaddle_make_in<'a>(
-    bundle: &'a [u8],
-    kinds: &mut [u32],
-    places: &mut [usize],
+    companions: &mut [usize],
     file: usize,
     present: u32,
     new_bytes: &'a [u8],
@@ -139,13 +133,13 @@ pub extern "C" fn knotsaddle_make_in<'a>(
     size: &mut [usize],
     work: &mut [u32],
 ) -> u32
-    ensures { λ r. ⌜ r ≡ makeCalled schedule (now (bundle .entry)) file present (now («new_bytes» .entry)) (length (now (out .entry))) (now (size .entry)) (length (now (work .entry))) (marksIn (now (kinds .entry)) (now (places .entry))) .refusal ⌝ }
-    ensures { λ _. ⌜ marksIn (now (kinds .exit)) (now (places .exit)) ≡ makeCalled schedule (now (bundle .entry)) file present (now («new_bytes» .entry)) (length (now (out .entry))) (now (size .entry)) (length (now (work .entry))) (marksIn (now (kinds .entry)) (now (places .entry))) .marks ⌝ }
-    ensures { λ _. ⌜ now (out .exit) ≡ outputCalled schedule (now (bundle .entry)) file present (now («new_bytes» .entry)) (now (out .entry)) (now (size .entry)) (length (now (work .entry))) (marksIn (now (kinds .entry)) (now (places .entry))) ⌝ }
-    ensures { λ _. ⌜ now (size .exit) ≡ sizeCalled schedule (now (bundle .entry)) file present (now («new_bytes» .entry)) (length (now (out .entry))) (now (size .entry)) (length (now (work .entry))) (marksIn (now (kinds .entry)) (now (places .entry))) ⌝ }
+    ensures { λ r. ⌜ r ≡ makeCalled schedule (now (bundle .entry)) file present (now («new_bytes» .entry)) (length (now (out .entry))) (now (size .entry)) (length (now (work .entry))) (marksIn (now (kinds .entry)) (now (places .entry)) (now (companions .entry))) .refusal ⌝ }
+    ensures { λ _. ⌜ marksIn (now (kinds .exit)) (now (places .exit)) (now (companions .exit)) ≡ makeCalled schedule (now (bundle .entry)) file present (now («new_bytes» .entry)) (length (now (out .entry))) (now (size .entry)) (length (now (work .entry))) (marksIn (now (kinds .entry)) (now (places .entry)) (now (companions .entry))) .marks ⌝ }
+    ensures { λ _. ⌜ now (out .exit) ≡ outputCalled schedule (now (bundle .entry)) file present (now («new_bytes» .entry)) (now (out .entry)) (now (size .entry)) (length (now (work .entry))) (marksIn (now (kinds .entry)) (now (places .entry)) (now (companions .entry))) ⌝ }
+    ensures { λ _. ⌜ now (size .exit) ≡ sizeAfter (makeCalled schedule (now (bundle .entry)) file present (now («new_bytes» .entry)) (length (now (out .entry))) (now (size .entry)) (length (now (work .entry))) (marksIn (now (kinds .entry)) (now (places .entry)) (now (companions .entry)))) (now (size .entry)) ⌝ }
     ensures { λ r. ⌜ now (work .exit) ≡ changeLeft schedule (now (bundle .entry)) file (fileHanded present (now («new_bytes» .entry))) r (now (work .entry)) ⌝ }
 {
-    let fault = make_call_fault(kinds, places, present, size);
+    let fault = call_fault(kinds, places, companions, size, present);
     if fault != 0 {
         return fault;
     }
@@ -159,97 +153,144 @@ pub extern "C" fn knotsaddle_make_in<'a>(
         work,
         kinds,
         places,
+        companions,
     );
-    size[0] = made.length;
-    made.refusal
+    put_size(made, size)
 }
 
-// Makes a change.
-#[no_mangle]
-pub extern "C" fn knotsaddle_make<'a>(
-    bundle: &'a [u8],
-    kinds: &mut [u32],
-    places: &mut [usize],
-    file: usize,
-    present: u32,
-    new_bytes: &'a [u8],
-    out: &mut [u8],
-    size: &mut [usize],
-) -> u32
-    ensures { λ r. ⌜ r ≡ makeCalled schedule (now (bundle .entry)) file present (now («new_bytes» .entry)) (length (now (out .entry))) (now (size .entry)) (workspaceOf schedule) (marksIn (now (kinds .entry)) (now (places .entry))) .refusal ⌝ }
-    ensures { λ _. ⌜ marksIn (now (kinds .exit)) (now (places .exit)) ≡ makeCalled schedule (now (bundle .entry)) file present (now («new_bytes» .entry)) (length (now (out .entry))) (now (size .entry)) (workspaceOf schedule) (marksIn (now (kinds .entry)) (now (places .entry))) .marks ⌝ }
-    ensures { λ _. ⌜ now (out .exit) ≡ outputCalled schedule (now (bundle .entry)) file present (now («new_bytes» .entry)) (now (out .entry)) (now (size .entry)) (workspaceOf schedule) (marksIn (now (kinds .entry)) (now (places .entry))) ⌝ }
-    ensures { λ _. ⌜ now (size .exit) ≡ sizeCalled schedule (now (bundle .entry)) file present (now («new_bytes» .entry)) (length (now (out .entry))) (now (size .entry)) (workspaceOf schedule) (marksIn (now (kinds .entry)) (now (places .entry))) ⌝ }
-{
-    let mut work = [0u32; 794702];
-    knotsaddle_make_in(
-        bundle,
-        kinds,
-        places,
-        file,
-        present,
-        new_bytes,
-        out,
-        size,
-        &mut work,
-    )
-}
-
-// Writes the text of a refusal, or with none that of a board of 81 marks, to the front of `out`, and
-// answers its length.
+// Writes the text of a refusal, or with none that of a board, to the front of `out`, and answers its
+// length.
 #[no_mangle]
 pub extern "C" fn knotsaddle_report(
     refusal: u32,
     kinds: &[u32],
     places: &[usize],
+    companions: &[usize],
     out: &mut [u8],
 ) -> usize
-    ensures { λ r. ⌜ r ≡ length (textCalled schedule refusal (marksIn (now (kinds .entry)) (now (places .entry))) (length (now (out .entry)))) ⌝ }
-    ensures { λ _. ⌜ now (out .exit) ≡ textCalled schedule refusal (marksIn (now (kinds .entry)) (now (places .entry))) (length (now (out .entry))) ++ drop (length (textCalled schedule refusal (marksIn (now (kinds .entry)) (now (places .entry))) (length (now (out .entry))))) (now (out .entry)) ⌝ }
+    ensures { λ r. ⌜ r ≡ length (textCalled schedule refusal (marksIn (now (kinds .entry)) (now (places .entry)) (now (companions .entry))) (length (now (out .entry)))) ⌝ }
+    ensures { λ _. ⌜ now (out .exit) ≡ textCalled schedule refusal (marksIn (now (kinds .entry)) (now (places .entry)) (now (companions .entry))) (length (now (out .entry))) ++ drop (length (textCalled schedule refusal (marksIn (now (kinds .entry)) (now (places .entry)) (now (companions .entry))) (length (now (out .entry))))) (now (out .entry)) ⌝ }
 {
-    if call_fault(kinds, places, 0) != 0 {
+    if !have_length(81, kinds, places, companions) {
         return 0;
     }
-    report(refusal, kinds, places, out)
+    report(refusal, kinds, places, companions, out)
 }
 
-// What a file asked for by number is, as a number.
-fn file_number(bundle: &[u8], file: usize) -> u32
-    ensures { λ r. ⌜ r ≡ stateNumber (stateAsked 20 (now (bundle .entry)) file) ⌝ }
+// Makes every mark of a board 'not judged'.
+#[no_mangle]
+pub extern "C" fn knotsaddle_fresh(
+    kinds: &mut [u32],
+    places: &mut [usize],
+    companions: &mut [usize],
+) -> u32
+    ensures { λ r. ⌜ r ≡ freshFault schedule (marksIn (now (kinds .entry)) (now (places .entry)) (now (companions .entry))) ⌝ }
+    ensures { λ _. ⌜ marksIn (now (kinds .exit)) (now (places .exit)) (now (companions .exit)) ≡ freshCalled schedule (marksIn (now (kinds .entry)) (now (places .entry)) (now (companions .entry))) ⌝ }
 {
-    let refusal = lookup_fault(bundle, 20, file);
-    if refusal != 0 {
-        return 200 + refusal;
+    if !have_length(81, kinds, places, companions) {
+        return 100;
     }
-    if is_omitted(bundle, file) {
-        return 1;
-    }
+    make_fresh(kinds, places, companions);
     0
 }
 
-// Where its part of the bundle starts.
-fn file_start(bundle: &[u8], file: usize) -> usize
-    ensures { λ r. ⌜ r ≡ startAsked (now (bundle .entry)) file ⌝ }
+// Whether a file of a bundle is there, as a number.
+fn present_number(bundle: &[u8], file: usize) -> u32
+    ensures { λ r. ⌜ r ≡ presentNumber (now (bundle .entry)) file ⌝ }
 {
-    if lookup_fault(bundle, 20, file) != 0 {
+    if is_omitted(bundle, file) {
         return 0;
     }
-    word_at(bundle, 4 + 8 * file) as usize
+    1
 }
 
-// Asks for a file by number: 0 if it is there, 1 if it is omitted, 200 and the number of a refusal.
-// `place`, of 2, gets the start and the length of its part of the bundle, 0 and 0 unless it is there.
-#[no_mangle]
-pub extern "C" fn knotsaddle_file(bundle: &[u8], file: usize, place: &mut [usize]) -> u32
-    ensures { λ r. ⌜ r ≡ cond (eqb (length (now (place .entry))) 2) (stateNumber (stateAsked 20 (now (bundle .entry)) file)) 100 ⌝ }
-    ensures { λ _. ⌜ now (place .exit) ≡ cond (eqb (length (now (place .entry))) 2) (set (set (now (place .entry)) 0 (startAsked (now (bundle .entry)) file)) 1 (length (partAsked 20 (now (bundle .entry)) file))) (now (place .entry)) ⌝ }
+// The refusal of a question for a file, with lists for the answer.
+fn file_fault(bundle: &[u8], file: usize, present: &[u32], place: &[usize]) -> u32
+    ensures { λ r. ⌜ r ≡ fileFault (now (bundle .entry)) file (now (present .entry)) (now (place .entry)) ⌝ }
 {
+    if present.len() != 1 {
+        return 100;
+    }
     if place.len() != 2 {
         return 100;
     }
-    let start = file_start(bundle, file);
-    let length = file_part(bundle, 20, file).len();
+    lookup_fault(bundle, 20, file)
+}
+
+// Asks for a file by number: its refusal or 0. `present` gets 1 if the file is there and 0 if it is
+// omitted, `place` the start and the length of its part of the bundle.
+#[no_mangle]
+pub extern "C" fn knotsaddle_file(
+    bundle: &[u8],
+    file: usize,
+    present: &mut [u32],
+    place: &mut [usize],
+) -> u32
+    ensures { λ r. ⌜ r ≡ fileFault (now (bundle .entry)) file (now (present .entry)) (now (place .entry)) ⌝ }
+    ensures { λ r. ⌜ now (present .exit) ≡ unlessRefused r (set (now (present .entry)) 0 (presentNumber (now (bundle .entry)) file)) (now (present .entry)) ⌝ }
+    ensures { λ r. ⌜ now (place .exit) ≡ unlessRefused r (placeOf (now (bundle .entry)) file (now (place .entry))) (now (place .entry)) ⌝ }
+{
+    let answer = file_fault(bundle, file, present, place);
+    if answer != 0 {
+        return answer;
+    }
+    let there = present_number(bundle, file);
+    let start = offset_at(bundle, file);
+    let length = length_at(bundle, file);
+    present[0] = there;
     place[0] = start;
     place[1] = length;
-    file_number(bundle, file)
+    0
+}
+
+// The bundle with no files.
+fn empty_bundle() -> [u8; 164]
+    ensures { λ r. ⌜ r ≡ emptyBundle 20 ⌝ }
+{
+    let mut bundle = [0u8; 164];
+    bundle[0] = 20;
+    bundle
+}
+
+// Writes a text to the front of an output, where there is room; answers its length.
+fn put_front(out: &mut [u8], text: &[u8]) -> usize
+    ensures { λ r. ⌜ r ≡ lengthIn (now (out .entry)) (now (text .entry)) ⌝ }
+    ensures { λ _. ⌜ now (out .exit) ≡ written (now (out .entry)) 0 (now (text .entry)) ⌝ }
+{
+    if out.len() < text.len() {
+        return 0;
+    }
+    put_part(out, 0, text);
+    text.len()
+}
+
+// Writes the bundle with no files to the front of `out` and answers its length; 0 and nothing written
+// where `out` is shorter.
+#[no_mangle]
+pub extern "C" fn knotsaddle_empty(out: &mut [u8]) -> usize
+    ensures { λ r. ⌜ r ≡ lengthIn (now (out .entry)) (emptyBundle 20) ⌝ }
+    ensures { λ _. ⌜ now (out .exit) ≡ written (now (out .entry)) 0 (emptyBundle 20) ⌝ }
+{
+    let bundle = empty_bundle();
+    put_front(out, &bundle)
+}
+
+// How many marks of these kinds don't hold.
+#[no_mangle]
+pub extern "C" fn knotsaddle_faults(kinds: &[u32]) -> usize
+    ensures { λ r. ⌜ r ≡ faultsIn (now (kinds .entry)) ⌝ }
+{
+    count_faults(kinds)
+}
+
+// Writes the name of a file to the front of `out` and answers its length; 0 and nothing written for a
+// number over 19 and where `out` is shorter.
+#[no_mangle]
+pub extern "C" fn knotsaddle_file_name(file: usize, out: &mut [u8]) -> usize
+    ensures { λ r. ⌜ r ≡ lengthIn (now (out .entry)) (nameOf file) ⌝ }
+    ensures { λ _. ⌜ now (out .exit) ≡ written (now (out .entry)) 0 (nameOf file) ⌝ }
+{
+    let mut path = [0u8; 36];
+    let end = put_path(&mut path, 0, file);
+    put_front(out, part(&path, 1, end))
 }

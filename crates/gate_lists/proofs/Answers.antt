@@ -1,16 +1,16 @@
 -- What the calls over lists answer, from what their steps answer.
 -- Assumes nothing.
-use Prim.Native.Nat.{ℕ, _+_, _/_, _≤_, _<_}
+use Prim.Native.Nat.{ℕ, _/_, _≤_, _<_}
 use mathlib.Core.Path.{_≡_, refl, sym, ap, _∙_}
-use mathlib.Core.Bool.{Bool, true, false, cond, _&&_, and-false}
-use mathlib.Core.List.{List, _++_}
+use mathlib.Core.Bool.{Bool, true, false, cond, and-false}
+use mathlib.Core.List.{List}
 use native.Mathlib.Omega.{arith}
-use borrow.Author.Tests.{lt-leb, le-leb, eq-eqb, ne-eqb, eqb-true, eqb-false}
-use lib.ListN.{length, set, drop, length-set}
+use borrow.Author.Tests.{lt-leb, le-leb, eq-eqb, ne-eqb, eqb-true}
+use lib.ListN.{length, set}
 use lib.Dec.{leb, ltb, eqb}
 use Rattle.parts.specs.Files.{File, newFile}
-use Rattle.mark_numbers.specs.Marks.{Marks, marksIn, marksFrom, markIn, freshMarks, listOf}
-use Rattle.mark_numbers.proofs.Laws.{marks-same, list-start, list-stored, list-ends}
+use Rattle.mark_numbers.specs.Marks.{Marks, markIn, haveLength, freshMarks}
+use Rattle.mark_numbers.proofs.Laws.{Long, lists-long, long-lists, marks-same}
 use Rattle.bundle_layout.specs.Bundle.{bundleFault, fileAt, bundleLength}
 use Rattle.bundle_layout.specs.Change.{filesAfter, tryFault, makeFault, output}
 use Rattle.bundle_layout.proofs.Laws.{try-none, make-none}
@@ -19,10 +19,10 @@ use Rattle.bundle.specs.declared.Made.{Made}
 use Rattle.gate_marks.specs.declared.Scope.{Scope}
 use Rattle.gate_marks.specs.declared.Scope.the-variants.{Full, Change}
 use Rattle.gate_marks.specs.Gate.{Gate, marksOf}
-use Rattle.gate_marks.specs.Marks.{markAt, fullMarks}
+use Rattle.gate_marks.specs.Marks.{fullMarks}
 use Rattle.gate_marks.specs.Again.{touched, newMark, newMarks, workJudged, workspaceOf, hasRoom, hasLists, canJudge, marksAfter, workAfterwards}
 use Rattle.gate_marks.proofs.Laws.{mark-below, work-same}
-use Rattle.gate_calls.specs.Calls.{Answer, answer, changedMarks, judgement, accepted, answered, tried, changeMade}
+use Rattle.gate_calls.specs.Calls.{answer, changedMarks, judgement, accepted, answered, tried, changeMade}
 use Rattle.gate_calls.specs.Lent.{lentFault, over, judgedIn, triedIn, madeIn, outputIn, workLeft, judgeLeft, changeLeft}
 use Rattle.gate_calls.proofs.Lent.{lent-lists, lent-room, lent-judge, lent-try, lent-make, lent-output, lent-wrong, lent-refused, lent-untouched}
 use Rattle.standing.specs.Standing.{standing, placed}
@@ -36,26 +36,19 @@ use Rattle.gate_lists.specs.Stands.{standsIn}
 use Rattle.gate_lists.proofs.Stands.{stands-length, stands-bundle, stands-after}
 
 -- ---- the test of what is lent
-module _ (g : Gate) (lent : ℕ) (kinds places : List ℕ) where
-  pub wrong-kinds : (length kinds ≡ marksOf g → ⊥) → 100 ≡ lentFault g lent (marksIn kinds places)
+module _ (g : Gate) (lent : ℕ) (handed : Marks) where
+  pub wrong-lists : haveLength (marksOf g) handed ≡ false → 100 ≡ lentFault g lent handed
   unfolding lentFault hasLists
-  wrong-kinds n = rw (ne-eqb (length kinds) (marksOf g) n)
+  wrong-lists e = rw e
 
-  module _ (k : length kinds ≡ marksOf g) where
-    pub wrong-places : (length places ≡ marksOf g → ⊥) → 100 ≡ lentFault g lent (marksIn kinds places)
-    unfolding lentFault hasLists
-    wrong-places n = rw (eq-eqb (length kinds) (marksOf g) k, ne-eqb (length places) (marksOf g) n)
+  module _ (right : haveLength (marksOf g) handed ≡ true) where
+    pub short-work : lent < workspaceOf g → 14 ≡ lentFault g lent handed
+    unfolding lentFault hasLists hasRoom
+    short-work l = rw (right, lt-leb (workspaceOf g) lent l, and-false (leb (g .files) 32))
 
-    module _ (p : length places ≡ marksOf g) where
-      pub short-work : lent < workspaceOf g → 14 ≡ lentFault g lent (marksIn kinds places)
-      unfolding lentFault hasLists hasRoom
-      short-work l =
-          rw (eq-eqb (length kinds) (marksOf g) k, eq-eqb (length places) (marksOf g) p, lt-leb (workspaceOf g) lent l, and-false (leb (g .files) 32))
-
-      pub long-work : g .files ≤ 32 → workspaceOf g ≤ lent → 0 ≡ lentFault g lent (marksIn kinds places)
-      unfolding lentFault hasLists hasRoom
-      long-work f l =
-          rw (eq-eqb (length kinds) (marksOf g) k, eq-eqb (length places) (marksOf g) p, le-leb (g .files) 32 f, le-leb (workspaceOf g) lent l)
+    pub long-work : g .files ≤ 32 → workspaceOf g ≤ lent → 0 ≡ lentFault g lent handed
+    unfolding lentFault hasLists hasRoom
+    long-work f l = rw (right, le-leb (g .files) 32 f, le-leb (workspaceOf g) lent l)
 
 -- ---- with room the marks in scope are judged, of files that agree with these
 module _ (g : Gate) (scope : Scope) (standing files : ℕ → File) (handed : Marks) (work : List ℕ) (room : lentFault g (length work) handed ≡ 0)
@@ -189,36 +182,6 @@ module _ (g : Gate) (scope : Scope) (files : ℕ → File) (work : List ℕ) whe
   unfolding workLeft
   work-judged refusal z e = e ∙ rw (eq-eqb refusal 0 z)
 
--- ---- lists made fresh, the first m marks of them
-pub record Freshened (kinds₀ places₀ kinds places : List ℕ) (m : ℕ) : Type 0 where
-  pub kinds-are : kinds ≡ listOf (λ m. 2) m ++ drop m kinds₀
-  pub places-are : places ≡ listOf (λ m. 0) m ++ drop m places₀
-  pub kinds-long : length kinds ≡ length kinds₀
-  pub places-long : length places ≡ length places₀
-  pub few : m ≤ length kinds₀
-
-module _ (kinds₀ places₀ : List ℕ) (same : length kinds₀ ≡ length places₀) where
-  pub fresh-starts : Freshened kinds₀ places₀ kinds₀ places₀ 0
-  fresh-starts =
-      record { kinds-are = list-start (λ m. 2) kinds₀; places-are = list-start (λ m. 0) places₀; kinds-long = refl; places-long = refl; few = omega arith }
-
-  module _ {kinds places : List ℕ} {m : ℕ} (so-far : Freshened kinds₀ places₀ kinds places m) where
-    pub fresh-next : m < length kinds₀ → Freshened kinds₀ places₀ (set kinds m 2) (set places m 0) (m + 1)
-    fresh-next l =
-        record {
-          kinds-are = rw (so-far .kinds-are) (list-stored (λ m. 2) kinds₀ m 2 l refl);
-          places-are = rw (so-far .places-are) (list-stored (λ m. 0) places₀ m 0 (omega arith) refl);
-          kinds-long = length-set kinds m 2 ∙ so-far .kinds-long;
-          places-long = length-set places m 0 ∙ so-far .places-long;
-          few = omega arith;
-        }
-
-    pub fresh-ends : length kinds₀ ≤ m → marksIn kinds places ≡ freshMarks (length kinds₀)
-    unfolding freshMarks marksFrom
-    fresh-ends l =
-        let e : m ≡ length kinds₀ = omega (arith, so-far .few) in
-        rw (so-far .kinds-are, so-far .places-are, e, list-ends (λ m. 2) kinds₀ (length kinds₀) refl, list-ends (λ m. 0) places₀ (length kinds₀) (sym same))
-
 -- ---- the gates in numbers
 pub files-of : (which : Which) → 20 ≡ gateCalled which .files
 unfolding gateCalled
@@ -245,46 +208,51 @@ judged-called which scope files lent handed work (a, (b, c)) =
 
 -- ---- the answers of the calls, as the code comes to them
 -- lists that were not refused are as long as there are marks
-pub lists-right : (g : Gate) (lent : ℕ) (kinds places : List ℕ) {fault : ℕ} → fault ≡ lentFault g lent (marksIn kinds places) → (fault ≡ 100 → ⊥) → (length kinds ≡ marksOf g) × (length places ≡ marksOf g)
-lists-right g lent kinds places {fault} is right = go (eqb (length kinds) (marksOf g)) (eqb (length places) (marksOf g)) refl refl
+lists-not-refused : (g : Gate) (lent : ℕ) (handed : Marks) {fault : ℕ} → fault ≡ lentFault g lent handed → (fault ≡ 100 → ⊥) → Long (marksOf g) handed
+lists-not-refused g lent handed is right = lists-long (marksOf g) handed (go (haveLength (marksOf g) handed) refl)
   where
-    go : (a b : Bool) → eqb (length kinds) (marksOf g) ≡ a → eqb (length places) (marksOf g) ≡ b → (length kinds ≡ marksOf g) × (length places ≡ marksOf g)
-    go true true p q = (eqb-true (length kinds) (marksOf g) p, eqb-true (length places) (marksOf g) q)
-    go true false p q = absurd (right (is ∙ sym (wrong-places g lent kinds places (eqb-true (length kinds) (marksOf g) p) (eqb-false (length places) (marksOf g) q))))
-    go false b p q = absurd (right (is ∙ sym (wrong-kinds g lent kinds places (eqb-false (length kinds) (marksOf g) p))))
+    go : (t : Bool) → haveLength (marksOf g) handed ≡ t → haveLength (marksOf g) handed ≡ true
+    go true e = e
+    go false e = absurd (right (is ∙ sym (wrong-lists g lent handed e)))
 
-module _ (g : Gate) (s : List ℕ) (kinds places work : List ℕ) {fault : ℕ} (is : fault ≡ lentFault g (length work) (marksIn kinds places)) where
+-- and so of one length
+pub lists-even : (g : Gate) (lent : ℕ) (handed : Marks) {fault : ℕ} → fault ≡ lentFault g lent handed → (fault ≡ 100 → ⊥) → haveLength (length (handed .kinds)) handed ≡ true
+lists-even g lent handed is right =
+    let l = lists-not-refused g lent handed is right in
+    rw (l .kinds-long) (long-lists (marksOf g) handed l)
+
+module _ (g : Gate) (s : List ℕ) (handed : Marks) (work : List ℕ) {fault : ℕ} (is : fault ≡ lentFault g (length work) handed) where
   abbrev Judged : Made → Marks → List ℕ → Type 0
   Judged made marks last =
-      (made ≡ madeOf (judgedIn g s (length work) (marksIn kinds places))) × ((marks ≡ judgedIn g s (length work) (marksIn kinds places) .marks) × (last ≡ judgeLeft g s (made .refusal) work))
+      (made ≡ madeOf (judgedIn g s (length work) handed)) × ((marks ≡ judgedIn g s (length work) handed .marks) × (last ≡ judgeLeft g s (made .refusal) work))
 
-  by-answer : (refusal n : ℕ) (marks : Marks) (last : List ℕ) → judgedIn g s (length work) (marksIn kinds places) ≡ answer refusal n marks → last ≡ judgeLeft g s refusal work → Judged (record { refusal = refusal; length = n }) marks last
+  by-answer : (refusal n : ℕ) (marks : Marks) (last : List ℕ) → judgedIn g s (length work) handed ≡ answer refusal n marks → last ≡ judgeLeft g s refusal work → Judged (record { refusal = refusal; length = n }) marks last
   unfolding madeOf
   by-answer refusal n marks last e w = (sym (ap madeOf e), (sym (ap (λ x. x .marks) e), w))
 
-  pub judge-wrong : fault ≡ 100 → Judged (record { refusal = 100; length = 0 }) (marksIn kinds places) work
+  pub judge-wrong : fault ≡ 100 → Judged (record { refusal = 100; length = 0 }) handed work
   unfolding judgeLeft workLeft
-  judge-wrong e = by-answer 100 0 (marksIn kinds places) work (lists-wrong g s (length work) (marksIn kinds places) fault is e) refl
+  judge-wrong e = by-answer 100 0 handed work (lists-wrong g s (length work) handed fault is e) refl
 
   module _ {n refusal : ℕ} (n-is : n ≡ g .files) (by : refusal ≡ cond (eqb fault 0) (bundleFault n s) fault) where
     refusal-by : refusal ≡ cond (eqb fault 0) (bundleFault (g .files) s) fault
     refusal-by = rw n-is at by
 
-    pub judge-fresh : (fault ≡ 100 → ⊥) → (refusal ≡ 0 → ⊥) → {marks : Marks} → marks ≡ freshMarks (length kinds) → Judged (record { refusal = refusal; length = 0 }) marks work
+    pub judge-fresh : (fault ≡ 100 → ⊥) → (refusal ≡ 0 → ⊥) → {marks : Marks} → marks ≡ freshMarks (length (handed .kinds)) → Judged (record { refusal = refusal; length = 0 }) marks work
     unfolding judgeLeft
     judge-fresh right some {marks} e =
         by-answer refusal 0 marks work
-        (judge-refused g s (length work) (marksIn kinds places) fault refusal is right refusal-by some ∙ ap (answer refusal 0) (sym (e ∙ ap freshMarks (lists-right g (length work) kinds places is right .0))))
+        (judge-refused g s (length work) handed fault refusal is right refusal-by some ∙ ap (answer refusal 0) (sym (e ∙ ap freshMarks (lists-not-refused g (length work) handed is right .kinds-long))))
         (work-untouched g Full (fileAt s) work refusal some)
 
     pub judge-full : refusal ≡ 0 → (standing : ℕ → File) → ((i : ℕ) → i < g .files → standing i ≡ fileAt s i) → {marks : Marks} {last : List ℕ}
-        → marks ≡ marksAfter g Full standing (length work) (marksIn kinds places) → last ≡ workAfterwards g Full standing (marksIn kinds places) work → Judged (record { refusal = 0; length = length s }) marks last
+        → marks ≡ marksAfter g Full standing (length work) handed → last ≡ workAfterwards g Full standing handed work → Judged (record { refusal = 0; length = length s }) marks last
     unfolding judgeLeft
     judge-full z standing same {marks} {last} m w =
-        let room = room-there g s (length work) (marksIn kinds places) fault refusal is refusal-by z in
+        let room = room-there g s (length work) handed fault refusal is refusal-by z in
         by-answer 0 (length s) marks last
-        (judged-whole g s (length work) (marksIn kinds places) fault refusal is refusal-by z ∙ ap (answer 0 (length s)) (sym (judged-marks g Full standing (fileAt s) (marksIn kinds places) work room same m ∙ all-new g (fileAt s) (marksIn kinds places))))
-        (work-judged g Full (fileAt s) work 0 refl (judged-work g Full standing (fileAt s) (marksIn kinds places) work room same w))
+        (judged-whole g s (length work) handed fault refusal is refusal-by z ∙ ap (answer 0 (length s)) (sym (judged-marks g Full standing (fileAt s) handed work room same m ∙ all-new g (fileAt s) handed)))
+        (work-judged g Full (fileAt s) work 0 refl (judged-work g Full standing (fileAt s) handed work room same w))
 
 -- the files of a bundle as they were put down
 pub bundle-stands : (s b c stand₀ stand : List ℕ) {n : ℕ} (m : ℕ) → n ≡ m → n ≤ length stand₀ / 3 → stand ≡ standsIn s n stand₀ → (i : ℕ) → i < m → standing s b c stand i ≡ fileAt s i

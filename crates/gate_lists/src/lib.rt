@@ -1,12 +1,12 @@
 // The three calls of each gate over what a caller lends: a workspace, and lists for the marks.
 ghost use mathlib.Core.Path.{_≡_};
 ghost use mathlib.Core.Bool.{cond};
-ghost use Prim.Native.Nat.{_+_, _*_, _≤_, _<_, _/_};
+ghost use Prim.Native.Nat.{_+_, _≤_, _<_, _/_};
 ghost use lib.ListN.{length};
 ghost use lib.Dec.{eqb};
 ghost use Rattle.parts.specs.Files.{newFile};
 ghost use Rattle.standing.specs.Standing.{standing};
-ghost use Rattle.mark_numbers.specs.Marks.{marksIn, freshMarks};
+ghost use Rattle.mark_numbers.specs.Marks.{marksIn};
 ghost use Rattle.bundle_layout.specs.Bundle.{bundleFault};
 ghost use Rattle.bundle_layout.specs.Change.{filesAfter};
 ghost use Rattle.gate_marks.specs.Gate.{marksOf};
@@ -23,6 +23,8 @@ use bundle::make_bundle;
 use bundle::offset_at;
 use bundle::try_bundle;
 use gate_marks::Scope;
+use mark_numbers::have_length;
+use mark_numbers::make_fresh;
 use schedule::schedule_marks;
 use standing::place;
 
@@ -58,14 +60,16 @@ pub fn workspace(which: Which) -> usize
 }
 
 // 100 where a list has another length than there are marks, 14 where the workspace is too short, or 0.
-pub fn lent_fault(which: Which, lent: usize, kinds: &[u32], places: &[usize]) -> u32
-    ensures { λ r. ⌜ r ≡ lentFault (gateCalled which) lent (marksIn (now (kinds .entry)) (now (places .entry))) ⌝ }
+pub fn lent_fault(
+    which: Which,
+    lent: usize,
+    kinds: &[u32],
+    places: &[usize],
+    companions: &[usize],
+) -> u32
+    ensures { λ r. ⌜ r ≡ lentFault (gateCalled which) lent (marksIn (now (kinds .entry)) (now (places .entry)) (now (companions .entry))) ⌝ }
 {
-    let marks = mark_count(which);
-    if kinds.len() != marks {
-        return 100;
-    }
-    if places.len() != marks {
+    if !have_length(mark_count(which), kinds, places, companions) {
         return 100;
     }
     if lent < workspace(which) {
@@ -108,26 +112,14 @@ fn judge_standing<'a>(
     work: &mut [u32],
     kinds: &mut [u32],
     places: &mut [usize],
+    companions: &mut [usize],
 ) -> bool
-    ensures { λ r. ⌜ r ≡ canJudge (gateCalled which) (length (now (work .entry))) (marksIn (now (kinds .entry)) (now (places .entry))) ⌝ }
-    ensures { λ _. ⌜ marksIn (now (kinds .exit)) (now (places .exit)) ≡ marksAfter (gateCalled which) scope (standing (now (a .entry)) (now (b .entry)) (now (c .entry)) (now (stand .entry))) (length (now (work .entry))) (marksIn (now (kinds .entry)) (now (places .entry))) ⌝ }
-    ensures { λ _. ⌜ now (work .exit) ≡ workAfterwards (gateCalled which) scope (standing (now (a .entry)) (now (b .entry)) (now (c .entry)) (now (stand .entry))) (marksIn (now (kinds .entry)) (now (places .entry))) (now (work .entry)) ⌝ }
+    ensures { λ r. ⌜ r ≡ canJudge (gateCalled which) (length (now (work .entry))) (marksIn (now (kinds .entry)) (now (places .entry)) (now (companions .entry))) ⌝ }
+    ensures { λ _. ⌜ marksIn (now (kinds .exit)) (now (places .exit)) (now (companions .exit)) ≡ marksAfter (gateCalled which) scope (standing (now (a .entry)) (now (b .entry)) (now (c .entry)) (now (stand .entry))) (length (now (work .entry))) (marksIn (now (kinds .entry)) (now (places .entry)) (now (companions .entry))) ⌝ }
+    ensures { λ _. ⌜ now (work .exit) ≡ workAfterwards (gateCalled which) scope (standing (now (a .entry)) (now (b .entry)) (now (c .entry)) (now (stand .entry))) (marksIn (now (kinds .entry)) (now (places .entry)) (now (companions .entry))) (now (work .entry)) ⌝ }
 {
     match which {
-        Which::Schedule => schedule_marks(a, b, c, stand, scope, work, kinds, places),
-    }
-}
-
-// Makes every mark 'not judged'.
-fn make_fresh(kinds: &mut [u32], places: &mut [usize])
-    requires { ⌜ length (now kinds) ≡ length (now places) ⌝ }
-    ensures { λ _. ⌜ marksIn (now (kinds .exit)) (now (places .exit)) ≡ freshMarks (length (now (kinds .entry))) ⌝ }
-{
-    let mut m = 0;
-    while m < kinds.len() {
-        kinds[m] = 2;
-        places[m] = 0;
-        m += 1;
+        Which::Schedule => schedule_marks(a, b, c, stand, scope, work, kinds, places, companions),
     }
 }
 
@@ -148,12 +140,13 @@ pub fn judge_lists(
     work: &mut [u32],
     kinds: &mut [u32],
     places: &mut [usize],
+    companions: &mut [usize],
 ) -> Made
-    ensures { λ r. ⌜ r ≡ madeOf (judgedIn (gateCalled which) (now (bundle .entry)) (length (now (work .entry))) (marksIn (now (kinds .entry)) (now (places .entry)))) ⌝ }
-    ensures { λ _. ⌜ marksIn (now (kinds .exit)) (now (places .exit)) ≡ judgedIn (gateCalled which) (now (bundle .entry)) (length (now (work .entry))) (marksIn (now (kinds .entry)) (now (places .entry))) .marks ⌝ }
+    ensures { λ r. ⌜ r ≡ madeOf (judgedIn (gateCalled which) (now (bundle .entry)) (length (now (work .entry))) (marksIn (now (kinds .entry)) (now (places .entry)) (now (companions .entry)))) ⌝ }
+    ensures { λ _. ⌜ marksIn (now (kinds .exit)) (now (places .exit)) (now (companions .exit)) ≡ judgedIn (gateCalled which) (now (bundle .entry)) (length (now (work .entry))) (marksIn (now (kinds .entry)) (now (places .entry)) (now (companions .entry))) .marks ⌝ }
     ensures { λ r. ⌜ now (work .exit) ≡ judgeLeft (gateCalled which) (now (bundle .entry)) (r .refusal) (now (work .entry)) ⌝ }
 {
-    let fault = lent_fault(which, work.len(), kinds, places);
+    let fault = lent_fault(which, work.len(), kinds, places, companions);
     if fault == 100 {
         return Made {
             refusal: 100,
@@ -163,7 +156,7 @@ pub fn judge_lists(
     let n = file_count(which);
     let refusal = refusal_of(bundle, n, fault);
     if refusal != 0 {
-        make_fresh(kinds, places);
+        make_fresh(kinds, places, companions);
         return Made { refusal, length: 0 };
     }
     let mut stand = [0usize; 96];
@@ -179,6 +172,7 @@ pub fn judge_lists(
         work,
         kinds,
         places,
+        companions,
     );
     Made {
         refusal: 0,
@@ -197,11 +191,12 @@ fn judge_change<'a>(
     work: &mut [u32],
     kinds: &mut [u32],
     places: &mut [usize],
+    companions: &mut [usize],
 ) -> Made
-    requires { ⌜ lentFault (gateCalled which) (length (now work)) (marksIn (now kinds) (now places)) ≡ 0 ⌝ }
+    requires { ⌜ lentFault (gateCalled which) (length (now work)) (marksIn (now kinds) (now places) (now companions)) ≡ 0 ⌝ }
     requires { ⌜ ((made .refusal ≡ 0) → (k < gateCalled which .files)) ⌝ }
     ensures { λ r. ⌜ r ≡ made ⌝ }
-    ensures { λ _. ⌜ marksIn (now (kinds .exit)) (now (places .exit)) ≡ cond (eqb (made .refusal) 0) (changedMarks (gateCalled which) k (filesAfter (now (bundle .entry)) k (newFile present (now (new .entry)))) (marksIn (now (kinds .entry)) (now (places .entry)))) (marksIn (now (kinds .entry)) (now (places .entry))) ⌝ }
+    ensures { λ _. ⌜ marksIn (now (kinds .exit)) (now (places .exit)) (now (companions .exit)) ≡ cond (eqb (made .refusal) 0) (changedMarks (gateCalled which) k (filesAfter (now (bundle .entry)) k (newFile present (now (new .entry)))) (marksIn (now (kinds .entry)) (now (places .entry)) (now (companions .entry)))) (marksIn (now (kinds .entry)) (now (places .entry)) (now (companions .entry))) ⌝ }
     ensures { λ _. ⌜ now (work .exit) ≡ changeLeft (gateCalled which) (now (bundle .entry)) k (newFile present (now (new .entry))) (made .refusal) (now (work .entry)) ⌝ }
 {
     if made.refusal != 0 {
@@ -221,6 +216,7 @@ fn judge_change<'a>(
         work,
         kinds,
         places,
+        companions,
     );
     made
 }
@@ -244,12 +240,13 @@ pub fn try_lists<'a>(
     work: &mut [u32],
     kinds: &mut [u32],
     places: &mut [usize],
+    companions: &mut [usize],
 ) -> Made
-    ensures { λ r. ⌜ r ≡ madeOf (triedIn (gateCalled which) (now (bundle .entry)) k (newFile present (now (new .entry))) (length (now (work .entry))) (marksIn (now (kinds .entry)) (now (places .entry)))) ⌝ }
-    ensures { λ _. ⌜ marksIn (now (kinds .exit)) (now (places .exit)) ≡ triedIn (gateCalled which) (now (bundle .entry)) k (newFile present (now (new .entry))) (length (now (work .entry))) (marksIn (now (kinds .entry)) (now (places .entry))) .marks ⌝ }
+    ensures { λ r. ⌜ r ≡ madeOf (triedIn (gateCalled which) (now (bundle .entry)) k (newFile present (now (new .entry))) (length (now (work .entry))) (marksIn (now (kinds .entry)) (now (places .entry)) (now (companions .entry)))) ⌝ }
+    ensures { λ _. ⌜ marksIn (now (kinds .exit)) (now (places .exit)) (now (companions .exit)) ≡ triedIn (gateCalled which) (now (bundle .entry)) k (newFile present (now (new .entry))) (length (now (work .entry))) (marksIn (now (kinds .entry)) (now (places .entry)) (now (companions .entry))) .marks ⌝ }
     ensures { λ r. ⌜ now (work .exit) ≡ changeLeft (gateCalled which) (now (bundle .entry)) k (newFile present (now (new .entry))) (r .refusal) (now (work .entry)) ⌝ }
 {
-    let fault = lent_fault(which, work.len(), kinds, places);
+    let fault = lent_fault(which, work.len(), kinds, places, companions);
     if fault != 0 {
         return Made {
             refusal: fault,
@@ -257,7 +254,18 @@ pub fn try_lists<'a>(
         };
     }
     let made = try_bundle(bundle, file_count(which), k, present, new);
-    judge_change(which, bundle, k, present, new, made, work, kinds, places)
+    judge_change(
+        which,
+        bundle,
+        k,
+        present,
+        new,
+        made,
+        work,
+        kinds,
+        places,
+        companions,
+    )
 }
 
 // Makes a change: the new bundle goes to the front of `out`, unless it is refused.
@@ -271,13 +279,14 @@ pub fn make_lists<'a>(
     work: &mut [u32],
     kinds: &mut [u32],
     places: &mut [usize],
+    companions: &mut [usize],
 ) -> Made
-    ensures { λ r. ⌜ r ≡ madeOf (madeIn (gateCalled which) (now (bundle .entry)) k (newFile present (now (new .entry))) (length (now (out .entry))) (length (now (work .entry))) (marksIn (now (kinds .entry)) (now (places .entry)))) ⌝ }
-    ensures { λ _. ⌜ marksIn (now (kinds .exit)) (now (places .exit)) ≡ madeIn (gateCalled which) (now (bundle .entry)) k (newFile present (now (new .entry))) (length (now (out .entry))) (length (now (work .entry))) (marksIn (now (kinds .entry)) (now (places .entry))) .marks ⌝ }
-    ensures { λ _. ⌜ now (out .exit) ≡ outputIn (gateCalled which) (now (bundle .entry)) k (newFile present (now (new .entry))) (length (now (work .entry))) (marksIn (now (kinds .entry)) (now (places .entry))) (now (out .entry)) ⌝ }
+    ensures { λ r. ⌜ r ≡ madeOf (madeIn (gateCalled which) (now (bundle .entry)) k (newFile present (now (new .entry))) (length (now (out .entry))) (length (now (work .entry))) (marksIn (now (kinds .entry)) (now (places .entry)) (now (companions .entry)))) ⌝ }
+    ensures { λ _. ⌜ marksIn (now (kinds .exit)) (now (places .exit)) (now (companions .exit)) ≡ madeIn (gateCalled which) (now (bundle .entry)) k (newFile present (now (new .entry))) (length (now (out .entry))) (length (now (work .entry))) (marksIn (now (kinds .entry)) (now (places .entry)) (now (companions .entry))) .marks ⌝ }
+    ensures { λ _. ⌜ now (out .exit) ≡ outputIn (gateCalled which) (now (bundle .entry)) k (newFile present (now (new .entry))) (length (now (work .entry))) (marksIn (now (kinds .entry)) (now (places .entry)) (now (companions .entry))) (now (out .entry)) ⌝ }
     ensures { λ r. ⌜ now (work .exit) ≡ changeLeft (gateCalled which) (now (bundle .entry)) k (newFile present (now (new .entry))) (r .refusal) (now (work .entry)) ⌝ }
 {
-    let fault = lent_fault(which, work.len(), kinds, places);
+    let fault = lent_fault(which, work.len(), kinds, places, companions);
     if fault != 0 {
         return Made {
             refusal: fault,
@@ -285,5 +294,16 @@ pub fn make_lists<'a>(
         };
     }
     let made = make_bundle(bundle, file_count(which), k, present, new, out);
-    judge_change(which, bundle, k, present, new, made, work, kinds, places)
+    judge_change(
+        which,
+        bundle,
+        k,
+        present,
+        new,
+        made,
+        work,
+        kinds,
+        places,
+        companions,
+    )
 }

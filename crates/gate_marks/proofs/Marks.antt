@@ -2,19 +2,18 @@
 -- Assumes nothing.
 use Prim.Native.Nat.{ℕ, suc, _+_, _-_, _*_, _/_, _≤_, _<_}
 use mathlib.Core.Path.{_≡_, refl, sym, ap, _∙_}
-use mathlib.Core.Bool.{Bool, true, false, cond, not, _&&_}
-use mathlib.Core.List.{List, _++_}
+use mathlib.Core.Bool.{Bool, true, false, cond, _&&_}
+use mathlib.Core.List.{List}
 use native.Mathlib.Nat.{sub-zero}
 use native.Mathlib.Numerals.{add-one}
 use native.Mathlib.Omega.{arith}
-use borrow.Author.Tests.{le-ltb, le-leb, lt-leb, eq-eqb, ne-eqb, eqb-true, not-true, not-false}
-use lib.ListN.{length, set, drop, length-set}
+use borrow.Author.Tests.{le-ltb, le-leb, lt-leb, eq-eqb, ne-eqb}
+use lib.ListN.{length, getD}
 use lib.Dec.{leb, eqb}
-use Rattle.json_bytes.proofs.Laws.{both-left, both-right}
 use Rattle.parts.specs.Files.{File}
 use Rattle.mark_numbers.specs.declared.Mark.{Mark}
-use Rattle.mark_numbers.specs.Marks.{listOf, Marks, marksIn, marksFrom, markIn}
-use Rattle.mark_numbers.proofs.Laws.{list-start, list-stored, list-passed, list-ends, marks-same}
+use Rattle.mark_numbers.specs.Marks.{Marks, marksIn, marksFrom, markIn, haveLength}
+use Rattle.mark_numbers.proofs.Laws.{marks-same}
 use Rattle.table_file.specs.File.{Expected}
 use Rattle.rule_shape.specs.declared.Rule.{Rule}
 use Rattle.rule_shape.specs.Rule.{firstOf, secondOf, reads, ruleFrom}
@@ -22,7 +21,7 @@ use Rattle.found_marks.specs.Found.{countIn, tableIn, ruleMarkIn, foundMark}
 use Rattle.found_marks.proofs.Laws.{and-false}
 use Rattle.gate_marks.specs.declared.Scope.{Scope}
 use Rattle.gate_marks.specs.Gate.{Gate, marksOf, ruleOf, markReads, expectedIn, gateFrom}
-use Rattle.gate_marks.specs.Work.{widthOf, roomStart, cellsIn, workRead}
+use Rattle.gate_marks.specs.Work.{widthOf, roomStart, cellsIn, readOf, workRead}
 use Rattle.gate_marks.specs.Marks.{markRead, fileMark, tableOf, ruleMark, ruleMarkAt, markAt}
 use Rattle.gate_marks.specs.Again.{touched, isTouched, newMark, newMarks, neededFrom, needed, isNeeded, workJudged, canJudge, hasRoom, hasLists, workspaceOf, marksAfter, workAfterwards}
 use Rattle.gate_marks.specs.Code.{roomsIn, Starts, ReadTo, putMark}
@@ -65,8 +64,8 @@ module _ (n : ℕ) (rule : ℕ → Rule) (scope : Scope) (file marks m : ℕ) wh
 
 -- ---- a mark judged from what was read is that of the files
 module _ (g : Gate) (scope : Scope) (files : ℕ → File) (count : ℕ → ℕ) (widths : (k : ℕ) → 2 * count k ≡ widthOf (g .expected k .form))
-    (starts work kinds places records : List ℕ) (begins : Starts (roomStart (g .expected)) (g .files) starts)
-    (read : ReadTo (g .files) (g .expected) (isNeeded g scope) files work kinds places records) where
+    (starts work : List ℕ) (own : Marks) (records : List ℕ) (begins : Starts (roomStart (g .expected)) (g .files) starts)
+    (read : ReadTo (g .files) (g .expected) (isNeeded g scope) files work own records) where
   table-is : (k : ℕ) → k < g .files → isNeeded g scope k ≡ true → tableIn files count starts work records k ≡ tableOf (g .expected k) (files k)
   unfolding tableIn tableOf cellsIn
   table-is k l e =
@@ -77,66 +76,26 @@ module _ (g : Gate) (scope : Scope) (files : ℕ → File) (count : ℕ → ℕ)
     unfolding marksOf
     is-needed k e = needed-by (g .files) (g .rule) scope k (g .rules) m few hit e
 
-    own-is : m < g .files → markIn (marksIn kinds places) m ≡ fileMark (g .expected m) (files m)
-    unfolding markIn fileMark markRead
-    own-is l =
-        let e = is-needed m (own-reads (g .files) (g .rule) m l) in
-        rw (read .kind-at m l e, read .place-at m l e)
+    own-is : m < g .files → markIn own m ≡ fileMark (g .expected m) (files m)
+    own-is l = read .mark-at m l (is-needed m (own-reads (g .files) (g .rule) m l))
 
-    rule-is : g .files ≤ m → firstOf (ruleOf g m) < g .files → secondOf (ruleOf g m) < g .files → ruleMarkIn (g .values) (g .texts) (tableIn files count starts work records) kinds (ruleOf g m) ≡ ruleMark g (ruleOf g m) (files (firstOf (ruleOf g m))) (files (secondOf (ruleOf g m)))
+    -- by its kind a file is readable or not
+    kind-is : (k : ℕ) → k < g .files → isNeeded g scope k ≡ true → getD (own .kinds) k 0 ≡ readOf (g .expected k) (files k) .read .kind
+    unfolding markIn fileMark markRead
+    kind-is k l e = ap (λ x. x .kind) (read .mark-at k l e)
+
+    rule-is : g .files ≤ m → firstOf (ruleOf g m) < g .files → secondOf (ruleOf g m) < g .files → ruleMarkIn (g .values) (g .texts) (tableIn files count starts work records) (own .kinds) (ruleOf g m) ≡ ruleMark g (ruleOf g m) (files (firstOf (ruleOf g m))) (files (secondOf (ruleOf g m)))
     unfolding ruleMarkIn ruleMark
     rule-is l a b =
         let first = is-needed (firstOf (ruleOf g m)) (first-reads (g .files) (g .rule) m l) in
         let second = is-needed (secondOf (ruleOf g m)) (second-reads (g .files) (g .rule) m l) in
-        rw (read .kind-at _ a first, read .kind-at _ b second, table-is _ a first, table-is _ b second)
+        rw (kind-is _ a first, kind-is _ b second, table-is _ a first, table-is _ b second)
 
-    found-is : foundMark (g .files) (g .rule) (g .values) (g .texts) (tableIn files count starts work records) (marksIn kinds places) m ≡ markAt g m files
+    found-is : foundMark (g .files) (g .rule) (g .values) (g .texts) (tableIn files count starts work records) own m ≡ markAt g m files
     unfolding foundMark markAt ruleMarkAt
     found-is = same-mark (g .files) m (firstOf (ruleOf g m)) (secondOf (ruleOf g m)) _ _ _ _ own-is rule-is
 
--- ---- marks put over those of the lists, the first m of them
-pub record Putting (new : ℕ → Mark) (old-kinds old-places : List ℕ) (m : ℕ) (kinds places : List ℕ) : Type 0 where
-  pub kinds-are : kinds ≡ listOf (λ i. new i .kind) m ++ drop m old-kinds
-  pub places-are : places ≡ listOf (λ i. new i .place) m ++ drop m old-places
-  pub kinds-long : length kinds ≡ length old-kinds
-  pub places-long : length places ≡ length old-places
-
-module _ (new : ℕ → Mark) (old-kinds old-places : List ℕ) where
-  pub putting-starts : Putting new old-kinds old-places 0 old-kinds old-places
-  putting-starts =
-      record {
-        kinds-are = list-start (λ i. new i .kind) old-kinds;
-        places-are = list-start (λ i. new i .place) old-places;
-        kinds-long = refl;
-        places-long = refl;
-      }
-
-  module _ {m : ℕ} {kinds places : List ℕ} (so-far : Putting new old-kinds old-places m kinds places) where
-    module _ (lk : m < length old-kinds) (lp : m < length old-places) where
-      pub putting-judged : (x : Mark) → x ≡ new m → Putting new old-kinds old-places (m + 1) (set kinds m (x .kind)) (set places m (x .place))
-      putting-judged x is =
-          record {
-            kinds-are = rw (so-far .kinds-are) (list-stored (λ i. new i .kind) old-kinds m (x .kind) lk (ap (λ y. y .kind) is));
-            places-are = rw (so-far .places-are) (list-stored (λ i. new i .place) old-places m (x .place) lp (ap (λ y. y .place) is));
-            kinds-long = length-set kinds m _ ∙ so-far .kinds-long;
-            places-long = length-set places m _ ∙ so-far .places-long;
-          }
-
-      pub putting-kept : markIn (marksIn old-kinds old-places) m ≡ new m → Putting new old-kinds old-places (m + 1) kinds places
-      unfolding markIn
-      putting-kept is =
-          record {
-            kinds-are = so-far .kinds-are ∙ list-passed (λ i. new i .kind) old-kinds m lk (ap (λ y. y .kind) is);
-            places-are = so-far .places-are ∙ list-passed (λ i. new i .place) old-places m lp (ap (λ y. y .place) is);
-            kinds-long = so-far .kinds-long;
-            places-long = so-far .places-long;
-          }
-
-    pub putting-ends : (n : ℕ) → m ≡ n → length old-kinds ≡ n → length old-places ≡ n → marksIn kinds places ≡ marksFrom n new
-    unfolding marksFrom
-    putting-ends n e lk lp =
-        rw (rw e at (so-far .kinds-are) ∙ list-ends (λ i. new i .kind) old-kinds n lk, rw e at (so-far .places-are) ∙ list-ends (λ i. new i .place) old-places n lp)
-
+-- ---- marks put over those of the lists
 module _ (n : ℕ) (rule : ℕ → Rule) (scope : Scope) (found : ℕ → Mark) (handed : Marks) (m : ℕ) {t : Bool} (t-is : t ≡ touched n rule scope m) where
   pub put-found : t ≡ true → (x : Mark) → x ≡ found m → x ≡ putMark n rule scope found handed m
   unfolding putMark
@@ -183,12 +142,6 @@ module _ (g : Gate) (scope : Scope) (files : ℕ → File) (handed : Marks) (wor
       let can : canJudge g (length work) handed ≡ true = rw (le-leb (g .files) 32 l, e, h) in
       (sym can, (rw can (are .0), rw can (are .1)))
 
--- the two tests that the code makes of the lists, as one
-pub lists-right : (kinds places marks : ℕ) {t : Bool} → t ≡ (eqb kinds marks && eqb places marks) → not t ≡ false → (kinds ≡ marks) × (places ≡ marks)
-lists-right kinds places marks {t} t-is e =
-    let both : (eqb kinds marks && eqb places marks) ≡ true = sym t-is ∙ not-false t e in
-    (eqb-true kinds marks (both-left (eqb kinds marks) (eqb places marks) both), eqb-true places marks (both-right (eqb kinds marks) (eqb places marks) both))
-
 -- ---- the same for the gate of lent tables
 module _ (forms fields names fixed rules values texts : List ℕ) (scope : Scope) (files : ℕ → File) where
   abbrev n : ℕ
@@ -206,39 +159,32 @@ module _ (forms fields names fixed rules values texts : List ℕ) (scope : Scope
   abbrev wanted : ℕ → Bool
   wanted = needed n (length rules / 9) (ruleFrom rules) scope
 
-  abbrev found : List ℕ → List ℕ → List ℕ → List ℕ → List ℕ → ℕ → Mark
-  found starts work records kinds places =
-      foundMark n (ruleFrom rules) values texts (tableIn files (countIn forms fields) starts work records) (marksIn kinds places)
+  abbrev found : List ℕ → List ℕ → List ℕ → Marks → ℕ → Mark
+  found starts work records own =
+      foundMark n (ruleFrom rules) values texts (tableIn files (countIn forms fields) starts work records) own
 
-  pub marks-judged : (starts lent work kinds places records : List ℕ) → Starts (roomStart expected) n starts → ReadTo n expected wanted files work kinds places records × (work ≡ workRead expected wanted files n lent)
-      → (handed last : Marks) → last ≡ marksFrom marks (putMark n (ruleFrom rules) scope (found starts work records kinds places) handed)
+  pub marks-judged : (starts lent work kinds places companions records : List ℕ) → Starts (roomStart expected) n starts → ReadTo n expected wanted files work (marksIn kinds places companions) records × (work ≡ workRead expected wanted files n lent)
+      → (handed last : Marks) → last ≡ marksFrom marks (putMark n (ruleFrom rules) scope (found starts work records (marksIn kinds places companions)) handed)
       → (last ≡ newMarks gate scope files handed) × (work ≡ workJudged gate scope files lent)
   unfolding gateFrom workJudged marksOf
-  marks-judged starts lent work kinds places records begins read handed last are =
-      (are ∙ put-all gate scope files (found starts work records kinds places) handed (found-is gate scope files (countIn forms fields) (width-is forms fields names fixed) starts work kinds places records begins (read .0)), read .1)
+  marks-judged starts lent work kinds places companions records begins read handed last are =
+      (are ∙ put-all gate scope files (found starts work records (marksIn kinds places companions)) handed (found-is gate scope files (countIn forms fields) (width-is forms fields names fixed) starts work (marksIn kinds places companions) records begins (read .0)), read .1)
 
-  module _ (kinds places work : List ℕ) where
-    abbrev handed : Marks
-    handed = marksIn kinds places
-
+  module _ (handed : Marks) (work : List ℕ) where
     pub ends-too-many : 32 < n → Ends gate scope files handed work false handed work
     unfolding gateFrom
     ends-too-many l = too-many gate scope files handed work l
 
-    module _ {h : Bool} (h-is : h ≡ (eqb (length kinds) marks && eqb (length places) marks)) where
-      lists-by : (b : Bool) → h ≡ b → hasLists gate handed ≡ b
-      unfolding gateFrom hasLists marksOf
-      lists-by b e = rw (← h-is) e
-
-      pub ends-other-lists : not h ≡ true → Ends gate scope files handed work false handed work
-      ends-other-lists e = other-lists gate scope files handed work (lists-by false (not-true h e))
+    pub ends-other-lists : haveLength marks handed ≡ false → Ends gate scope files handed work false handed work
+    unfolding gateFrom hasLists marksOf
+    ends-other-lists e = other-lists gate scope files handed work e
 
     module _ {t : Bool} (t-is : t ≡ leb (roomsIn forms fields n) (length work)) where
       pub ends-too-short : t ≡ false → Ends gate scope files handed work false handed work
       unfolding gateFrom workspaceOf
       ends-too-short e = too-short gate scope files handed work (room-by forms fields names fixed n (length work) t-is false e)
 
-      pub ends-judged : t ≡ true → n ≤ 32 → {h : Bool} → h ≡ (eqb (length kinds) marks && eqb (length places) marks) → not h ≡ false → (last : Marks) (cells : List ℕ) → (last ≡ newMarks gate scope files handed) × (cells ≡ workJudged gate scope files work) → Ends gate scope files handed work true last cells
-      unfolding gateFrom workspaceOf
-      ends-judged e l {h} h-is f last cells are =
-          judged gate scope files handed work l (room-by forms fields names fixed n (length work) t-is true e) (lists-by h-is true (not-false h f)) last cells are
+      pub ends-judged : t ≡ true → n ≤ 32 → haveLength marks handed ≡ true → (last : Marks) (cells : List ℕ) → (last ≡ newMarks gate scope files handed) × (cells ≡ workJudged gate scope files work) → Ends gate scope files handed work true last cells
+      unfolding gateFrom workspaceOf hasLists marksOf
+      ends-judged e l h last cells are =
+          judged gate scope files handed work l (room-by forms fields names fixed n (length work) t-is true e) h last cells are

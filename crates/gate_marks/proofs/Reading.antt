@@ -9,12 +9,15 @@ use mathlib.Core.List.{List, _++_, append-assoc}
 use native.Mathlib.Nat.{eq-or-lt-of-le}
 use native.Mathlib.Numerals.{add-one}
 use native.Mathlib.Omega.{arith}
-use lib.ListN.{length, getD, set, take, drop, length-set, length-drop}
+use lib.ListN.{length, set, take, drop, length-set, length-drop}
 use lib.Dec.{eqb}
 use lib.Seq.{getD-set-same, getD-set-other, drop-drop, length-take-le}
 use Rattle.parts.specs.Files.{File, isPresent, bytesOf, newFile, Left, Given}
 use Rattle.bundle_bytes.specs.Pieces.{written}
 use Rattle.bundle_bytes.proofs.Laws.{written-fits}
+use Rattle.mark_numbers.specs.declared.Mark.{Mark}
+use Rattle.mark_numbers.specs.Marks.{Marks, withMark}
+use Rattle.mark_numbers.proofs.Laws.{Long, put-there, put-elsewhere, put-long}
 use Rattle.table_rows.specs.Rows.{cellAt, fieldsFrom, rowsAfter, firstField, fieldCount, fieldsIn}
 use Rattle.table_rows.proofs.Laws.{fields-of-run}
 use Rattle.table_file.specs.declared.FileRead.{FileRead}
@@ -22,6 +25,7 @@ use Rattle.table_file.specs.File.{Expected, fileOf, expectedFrom}
 use Rattle.table_file.proofs.Kept.{file-length}
 use Rattle.gate_marks.specs.Gate.{expectedIn}
 use Rattle.gate_marks.specs.Work.{zeros, roomOf, roomStart, readOf, workAfter, workRead}
+use Rattle.gate_marks.specs.Marks.{markRead, fileMark}
 use Rattle.gate_marks.specs.Code.{ReadTo}
 use Rattle.gate_marks.proofs.Rooms.{length-zeros, room-next, room-grows, work-length, cells-other, cells-read}
 
@@ -64,10 +68,11 @@ module _ (e : Expected) (f : File) (there : Bool) (bytes : List ℕ) (there-is :
       long : length last ≡ to - from
       long = ap length cells-same ∙ file-length e f (zeros (to - from)) ∙ length-zeros (to - from)
 
-  pub one-read : (k : ℕ) (kinds places records : List ℕ) → (take from work ++ (last ++ drop (to - from) (drop from work)) ≡ written work from (fileOf e f (zeros (to - from)) .cells)) × ((set kinds k (r .kind) ≡ set kinds k (fileOf e f (zeros (to - from)) .read .kind)) × ((set places k (r .place) ≡ set places k (fileOf e f (zeros (to - from)) .read .place)) × (set records k (r .records) ≡ set records k (fileOf e f (zeros (to - from)) .read .records))))
-  one-read k kinds places records =
+  pub one-read : (k : ℕ) (own : Marks) (records : List ℕ) {last-own : Marks} {last-records : List ℕ} → {x : Mark} → x ≡ markRead r → last-own ≡ withMark own k x → last-records ≡ set records k (r .records)
+      → (take from work ++ (last ++ drop (to - from) (drop from work)) ≡ written work from (fileOf e f (zeros (to - from)) .cells)) × ((last-own ≡ withMark own k (markRead (fileOf e f (zeros (to - from)) .read))) × (last-records ≡ set records k (fileOf e f (zeros (to - from)) .read .records)))
+  one-read k own records mark-is own-is records-are =
       let is : r ≡ fileOf e f (zeros (to - from)) .read = r-is ∙ ap (λ t. t .read) same in
-      (placed, (ap (λ x. set kinds k (x .kind)) is, (ap (λ x. set places k (x .place)) is, ap (λ x. set records k (x .records)) is)))
+      (placed, (own-is ∙ ap (withMark own k) (mark-is ∙ ap markRead is), records-are ∙ ap (λ x. set records k (x .records)) is))
 
 -- ---- what has been read of the first n files
 module _ (expected : ℕ → Expected) (needed : ℕ → Bool) (files : ℕ → File) where
@@ -81,62 +86,54 @@ module _ (expected : ℕ → Expected) (needed : ℕ → Bool) (files : ℕ → 
     unfolding workRead
     work-goes-on e = rw (add-one n, e)
 
-  module _ (work kinds places records : List ℕ) where
-    read-none : ReadTo 0 expected needed files work kinds places records
-    read-none = record { cell-part = λ f l e. absurd (omega arith); kind-at = λ f l e. absurd (omega arith); place-at = λ f l e. absurd (omega arith); records-at = λ f l e. absurd (omega arith) }
+  module _ (work : List ℕ) (own : Marks) (records : List ℕ) where
+    read-none : ReadTo 0 expected needed files work own records
+    read-none = record { cell-part = λ f l e. absurd (omega arith); mark-at = λ f l e. absurd (omega arith); records-at = λ f l e. absurd (omega arith) }
 
-    module _ (i : ℕ) (read : ReadTo i expected needed files work kinds places records) where
+    module _ (i : ℕ) (read : ReadTo i expected needed files work own records) where
       -- a file that no mark needs is passed over
-      read-skip : needed i ≡ false → ReadTo (i + 1) expected needed files work kinds places records
+      read-skip : needed i ≡ false → ReadTo (i + 1) expected needed files work own records
       read-skip none =
           record {
             cell-part = λ f l e. read .cell-part f (before f l e) e;
-            kind-at = λ f l e. read .kind-at f (before f l e) e;
-            place-at = λ f l e. read .place-at f (before f l e) e;
+            mark-at = λ f l e. read .mark-at f (before f l e) e;
             records-at = λ f l e. read .records-at f (before f l e) e;
           }
         where
           before : (f : ℕ) → f < i + 1 → needed f ≡ true → f < i
           before f l e = by-last f i l (λ q. absurd (true≢false (sym e ∙ ap needed q ∙ none))) (λ h n. h)
 
-      -- a file that is read: the values that stand in a list for each needed one of the files before, then its own
-      value-turn : (list : List ℕ) (of : ℕ → ℕ) → i < length list → ((f : ℕ) → f < i → needed f ≡ true → getD list f 0 ≡ of f) → (f : ℕ) → f < i + 1 → needed f ≡ true → getD (set list i (of i)) f 0 ≡ of f
-      value-turn list of long before f l e =
-          by-last f i l (λ q. rw q (getD-set-same list i (of i) 0 long)) (λ h n. getD-set-other list i f (of i) 0 n ∙ before f h e)
-
-      read-turn : roomStart expected (i + 1) ≤ length work → i < length kinds → i < length places → i < length records → ReadTo (i + 1) expected needed files (workAfter expected i (files i) work) (set kinds i (readOf (expected i) (files i) .read .kind)) (set places i (readOf (expected i) (files i) .read .place)) (set records i (readOf (expected i) (files i) .read .records))
-      read-turn room lk lp lr =
+      -- a file that is read: what stands for each needed one of the files before, then its own
+      read-turn : roomStart expected (i + 1) ≤ length work → (n : ℕ) → Long n own → i < n → i < length records → ReadTo (i + 1) expected needed files (workAfter expected i (files i) work) (withMark own i (fileMark (expected i) (files i))) (set records i (readOf (expected i) (files i) .read .records))
+      read-turn room n long lm lr =
           record {
-            cell-part = λ f l e. by-last f i l (λ q. rw q (cells-read expected i (files i) work room)) (λ h n. cells-other expected i (files i) work f n ∙ read .cell-part f h e);
-            kind-at = value-turn kinds (λ f. readOf (expected f) (files f) .read .kind) lk (read .kind-at);
-            place-at = value-turn places (λ f. readOf (expected f) (files f) .read .place) lp (read .place-at);
-            records-at = value-turn records (λ f. readOf (expected f) (files f) .read .records) lr (read .records-at);
+            cell-part = λ f l e. by-last f i l (λ q. rw q (cells-read expected i (files i) work room)) (λ h o. cells-other expected i (files i) work f o ∙ read .cell-part f h e);
+            mark-at = λ f l e. by-last f i l (λ q. rw q (put-there own i (fileMark (expected i) (files i)) n long lm)) (λ h o. put-elsewhere own i (fileMark (expected i) (files i)) f o ∙ read .mark-at f h e);
+            records-at = λ f l e. by-last f i l (λ q. rw q (getD-set-same records i (readOf (expected i) (files i) .read .records) 0 lr)) (λ h o. getD-set-other records i f (readOf (expected i) (files i) .read .records) 0 o ∙ read .records-at f h e);
           }
 
   -- what the loop keeps: that, what became of the lent list, and that no list has another length
-  pub record Reading (n : ℕ) (lent work kinds places records : List ℕ) : Type 0 where
-    pub read : ReadTo n expected needed files work kinds places records
+  pub record Reading (n : ℕ) (lent work : List ℕ) (own : Marks) (records : List ℕ) : Type 0 where
+    pub read : ReadTo n expected needed files work own records
     pub work-is : work ≡ workRead expected needed files n lent
     pub work-long : length work ≡ length lent
-    pub kinds-long : length kinds ≡ 32
-    pub places-long : length places ≡ 32
+    pub own-long : Long 32 own
     pub records-long : length records ≡ 32
 
-  pub reading-starts : (work kinds places records : List ℕ) → length kinds ≡ 32 → length places ≡ 32 → length records ≡ 32 → Reading 0 work work kinds places records
+  pub reading-starts : (work : List ℕ) (own : Marks) (records : List ℕ) → Long 32 own → length records ≡ 32 → Reading 0 work work own records
   unfolding workRead
-  reading-starts work kinds places records lk lp lr =
-      record { read = read-none work kinds places records; work-is = refl; work-long = refl; kinds-long = lk; places-long = lp; records-long = lr }
+  reading-starts work own records lo lr =
+      record { read = read-none work own records; work-is = refl; work-long = refl; own-long = lo; records-long = lr }
 
-  module _ {i : ℕ} {lent work kinds places records : List ℕ} (so-far : Reading i lent work kinds places records) {t : Bool} (t-is : t ≡ needed i) where
-    pub reading-skips : t ≡ false → Reading (i + 1) lent work kinds places records
+  module _ {i : ℕ} {lent work : List ℕ} {own : Marks} {records : List ℕ} (so-far : Reading i lent work own records) {t : Bool} (t-is : t ≡ needed i) where
+    pub reading-skips : t ≡ false → Reading (i + 1) lent work own records
     reading-skips e =
         let none : needed i ≡ false = sym t-is ∙ e in
         record {
-          read = read-skip work kinds places records i (so-far .read) none;
+          read = read-skip work own records i (so-far .read) none;
           work-is = so-far .work-is ∙ sym (work-skips lent i none);
           work-long = so-far .work-long;
-          kinds-long = so-far .kinds-long;
-          places-long = so-far .places-long;
+          own-long = so-far .own-long;
           records-long = so-far .records-long;
         }
 
@@ -147,18 +144,17 @@ module _ (expected : ℕ → Expected) (needed : ℕ → Bool) (files : ℕ → 
           let size : to - from ≡ roomOf (expected i .form) = omega (arith, room-next expected i) in
           rw size
 
-      pub reading-goes-on : t ≡ true → {last then-kinds then-places then-records : List ℕ} → (last ≡ written work from (fileOf (expected i) (files i) (zeros (to - from)) .cells)) × ((then-kinds ≡ set kinds i (fileOf (expected i) (files i) (zeros (to - from)) .read .kind)) × ((then-places ≡ set places i (fileOf (expected i) (files i) (zeros (to - from)) .read .place)) × (then-records ≡ set records i (fileOf (expected i) (files i) (zeros (to - from)) .read .records)))) → Reading (i + 1) lent last then-kinds then-places then-records
-      unfolding workAfter
+      pub reading-goes-on : t ≡ true → {last : List ℕ} {last-own : Marks} {last-records : List ℕ} → (last ≡ written work from (fileOf (expected i) (files i) (zeros (to - from)) .cells)) × ((last-own ≡ withMark own i (markRead (fileOf (expected i) (files i) (zeros (to - from)) .read))) × (last-records ≡ set records i (fileOf (expected i) (files i) (zeros (to - from)) .read .records))) → Reading (i + 1) lent last last-own last-records
+      unfolding workAfter fileMark
       reading-goes-on e are =
           let last-is : _ ≡ workAfter expected i (files i) work = are .0 ∙ rw (read-is, from-is) in
           record {
-            read = rw (last-is, are .1 .0, are .1 .1 .0, are .1 .1 .1, read-is) (read-turn work kinds places records i (so-far .read) (omega (arith, so-far .work-long, room-grows expected (i + 1) n (omega arith))) (omega (arith, so-far .kinds-long)) (omega (arith, so-far .places-long)) (omega (arith, so-far .records-long)));
+            read = rw (last-is, are .1 .0, are .1 .1, read-is) (read-turn work own records i (so-far .read) (omega (arith, so-far .work-long, room-grows expected (i + 1) n (omega arith))) 32 (so-far .own-long) (omega arith) (omega (arith, so-far .records-long)));
             work-is = last-is ∙ ap (workAfter expected i (files i)) (so-far .work-is) ∙ sym (work-goes-on lent i (sym t-is ∙ e));
             work-long = ap length last-is ∙ work-length expected i (files i) work ∙ so-far .work-long;
-            kinds-long = ap length (are .1 .0) ∙ length-set kinds i _ ∙ so-far .kinds-long;
-            places-long = ap length (are .1 .1 .0) ∙ length-set places i _ ∙ so-far .places-long;
-            records-long = ap length (are .1 .1 .1) ∙ length-set records i _ ∙ so-far .records-long;
+            own-long = rw (are .1 .0) (put-long own i _ 32 (so-far .own-long));
+            records-long = ap length (are .1 .1) ∙ length-set records i _ ∙ so-far .records-long;
           }
 
-  pub reading-ends : {i : ℕ} {lent work kinds places records : List ℕ} → Reading i lent work kinds places records → (n : ℕ) → i ≡ n → ReadTo n expected needed files work kinds places records × (work ≡ workRead expected needed files n lent)
+  pub reading-ends : {i : ℕ} {lent work : List ℕ} {own : Marks} {records : List ℕ} → Reading i lent work own records → (n : ℕ) → i ≡ n → ReadTo n expected needed files work own records × (work ≡ workRead expected needed files n lent)
   reading-ends so-far n e = (rw e at (so-far .read), rw e at (so-far .work-is))

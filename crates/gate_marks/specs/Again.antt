@@ -4,10 +4,10 @@ use Prim.Native.Nat.{ℕ, zero, suc, _+_}
 use mathlib.Core.Bool.{Bool, true, false, cond, _&&_}
 use mathlib.Core.List.{List}
 use lib.ListN.{length}
-use lib.Dec.{leb, eqb}
+use lib.Dec.{leb}
 use Rattle.parts.specs.Files.{File}
 use Rattle.mark_numbers.specs.declared.Mark.{Mark}
-use Rattle.mark_numbers.specs.Marks.{Marks, marksFrom, markIn}
+use Rattle.mark_numbers.specs.Marks.{Marks, marksFrom, markIn, haveLength}
 use Rattle.rule_shape.specs.declared.Rule.{Rule}
 use Rattle.gate_marks.specs.declared.Scope.{Scope}
 use Rattle.gate_marks.specs.declared.Scope.the-variants.{Full, Change}
@@ -57,7 +57,7 @@ unfoldable pub hasRoom : Gate → ℕ → Bool
 hasRoom g lent = leb (g .files) 32 && leb (workspaceOf g) lent
 
 unfoldable pub hasLists : Gate → Marks → Bool
-hasLists g marks = eqb (length (marks .kinds)) (marksOf g) && eqb (length (marks .places)) (marksOf g)
+hasLists g marks = haveLength (marksOf g) marks
 
 unfoldable pub canJudge : Gate → ℕ → Marks → Bool
 canJudge g lent marks = hasRoom g lent && hasLists g marks

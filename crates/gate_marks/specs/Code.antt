@@ -15,6 +15,7 @@ use Rattle.rule_shape.specs.declared.Rule.{Rule}
 use Rattle.found_marks.specs.Found.{countIn}
 use Rattle.gate_marks.specs.declared.Scope.{Scope}
 use Rattle.gate_marks.specs.Work.{cellsIn, readOf}
+use Rattle.gate_marks.specs.Marks.{fileMark}
 use Rattle.gate_marks.specs.Again.{touched}
 
 -- how many cells a file has, and how many all files before it have
@@ -32,11 +33,10 @@ roomsIn forms fields (suc k) = roomsIn forms fields k + roomIn forms fields k
 pub record Starts (start : ℕ → ℕ) (n : ℕ) (starts : List ℕ) : Type 0 where
   pub at : (k : ℕ) → k ≤ n → getD starts k 0 ≡ start k
 
--- the needed ones of the first n files have been read: their cells, the kinds and places of their marks, their records
-pub record ReadTo (n : ℕ) (expected : ℕ → Expected) (needed : ℕ → Bool) (files : ℕ → File) (work kinds places records : List ℕ) : Type 0 where
+-- the needed ones of the first n files have been read: their cells, their own marks, their records
+pub record ReadTo (n : ℕ) (expected : ℕ → Expected) (needed : ℕ → Bool) (files : ℕ → File) (work : List ℕ) (own : Marks) (records : List ℕ) : Type 0 where
   pub cell-part : (f : ℕ) → f < n → needed f ≡ true → cellsIn expected work f ≡ readOf (expected f) (files f) .cells
-  pub kind-at : (f : ℕ) → f < n → needed f ≡ true → getD kinds f 0 ≡ readOf (expected f) (files f) .read .kind
-  pub place-at : (f : ℕ) → f < n → needed f ≡ true → getD places f 0 ≡ readOf (expected f) (files f) .read .place
+  pub mark-at : (f : ℕ) → f < n → needed f ≡ true → markIn own f ≡ fileMark (expected f) (files f)
   pub records-at : (f : ℕ) → f < n → needed f ≡ true → getD records f 0 ≡ readOf (expected f) (files f) .read .records
 
 -- the marks put over those that were handed in

@@ -17,7 +17,7 @@ use Rattle.gate_marks.specs.Work.{widthOf, readOf}
 
 -- ---- "Marks 0 to 19: the file itself"
 unfoldable pub markRead : FileRead → Mark
-markRead r = record { kind = r .kind; place = r .place }
+markRead r = record { kind = r .kind; place = r .place; companion = r .companion }
 
 unfoldable pub fileMark : Expected → File → Mark
 fileMark e f = markRead (readOf e f .read)

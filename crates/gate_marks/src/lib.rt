@@ -6,20 +6,25 @@ ghost use mathlib.Core.Path.{_≡_};
 ghost use mathlib.Core.Bool.{true, _&&_};
 ghost use Prim.Native.Nat.{_+_, _-_, _*_, _/_, _≤_, _<_};
 ghost use lib.ListN.{length, set};
-ghost use lib.Dec.{leb, eqb};
+ghost use lib.Dec.{leb};
 ghost use Rattle.parts.specs.Files.{newFile};
 ghost use Rattle.standing.specs.Standing.{standing};
 ghost use Rattle.bundle_bytes.specs.Pieces.{written};
-ghost use Rattle.mark_numbers.specs.Marks.{marksIn, marksFrom};
+ghost use Rattle.mark_numbers.specs.Marks.{marksIn, marksFrom, withMark, haveLength};
 ghost use Rattle.table_file.specs.File.{fileOf};
 ghost use Rattle.rule_shape.specs.Rule.{ruleFrom};
 ghost use Rattle.found_marks.specs.Found.{countIn, tableIn, foundMark};
 ghost use Rattle.gate_marks.specs.Gate.{gateFrom, expectedIn, markReads};
 ghost use Rattle.gate_marks.specs.Work.{zeros, roomStart, workRead};
+ghost use Rattle.gate_marks.specs.Marks.{markRead};
 ghost use Rattle.gate_marks.specs.Again.{touched, needed, newMarks, workJudged, canJudge, marksAfter, workAfterwards};
 ghost use Rattle.gate_marks.specs.Code.{roomIn, roomsIn, Starts, ReadTo, putMark};
 use found_marks::count_of;
 use found_marks::mark_at;
+use mark_numbers::Mark;
+use mark_numbers::have_length;
+use mark_numbers::put_mark;
+use mark_numbers::put_number;
 use rule_shape::first_file;
 use rule_shape::rule_count;
 use rule_shape::second_file;
@@ -109,6 +114,17 @@ fn read_own(
     read_file(form, required, present, s, fixed, own, names, count, cells)
 }
 
+// The mark of a file that was read.
+fn mark_read(read: FileRead) -> Mark
+    ensures { λ r. ⌜ r ≡ markRead read ⌝ }
+{
+    Mark {
+        kind: read.kind,
+        place: read.place,
+        companion: read.companion,
+    }
+}
+
 // Reads file k where it stands, its cells into its place of `work`, its mark and the number of its
 // records into lists.
 fn read_one<'a>(
@@ -126,12 +142,12 @@ fn read_one<'a>(
     work: &mut [u32],
     kinds: &mut [u32],
     places: &mut [usize],
+    companions: &mut [usize],
     records: &mut [usize],
 )
-    requires { ⌜ (k < 32) × (length (now kinds) ≡ 32) × (length (now places) ≡ 32) × (length (now records) ≡ 32) × (from ≤ to) × (to ≤ length (now work)) ⌝ }
+    requires { ⌜ (from ≤ to) × (to ≤ length (now work)) ⌝ }
     ensures { λ _. ⌜ now (work .exit) ≡ written (now (work .entry)) from (fileOf (expectedIn (now (forms .entry)) (now (fields .entry)) (now (names .entry)) (now (fixed .entry)) k) (standing (now (a .entry)) (now (b .entry)) (now (c .entry)) (now (stand .entry)) k) (zeros (to - from)) .cells) ⌝ }
-    ensures { λ _. ⌜ now (kinds .exit) ≡ set (now (kinds .entry)) k (fileOf (expectedIn (now (forms .entry)) (now (fields .entry)) (now (names .entry)) (now (fixed .entry)) k) (standing (now (a .entry)) (now (b .entry)) (now (c .entry)) (now (stand .entry)) k) (zeros (to - from)) .read .kind) ⌝ }
-    ensures { λ _. ⌜ now (places .exit) ≡ set (now (places .entry)) k (fileOf (expectedIn (now (forms .entry)) (now (fields .entry)) (now (names .entry)) (now (fixed .entry)) k) (standing (now (a .entry)) (now (b .entry)) (now (c .entry)) (now (stand .entry)) k) (zeros (to - from)) .read .place) ⌝ }
+    ensures { λ _. ⌜ marksIn (now (kinds .exit)) (now (places .exit)) (now (companions .exit)) ≡ withMark (marksIn (now (kinds .entry)) (now (places .entry)) (now (companions .entry))) k (markRead (fileOf (expectedIn (now (forms .entry)) (now (fields .entry)) (now (names .entry)) (now (fixed .entry)) k) (standing (now (a .entry)) (now (b .entry)) (now (c .entry)) (now (stand .entry)) k) (zeros (to - from)) .read)) ⌝ }
     ensures { λ _. ⌜ now (records .exit) ≡ set (now (records .entry)) k (fileOf (expectedIn (now (forms .entry)) (now (fields .entry)) (now (names .entry)) (now (fixed .entry)) k) (standing (now (a .entry)) (now (b .entry)) (now (c .entry)) (now (stand .entry)) k) (zeros (to - from)) .read .records) ⌝ }
 {
     let there = is_there(stand, k);
@@ -146,9 +162,8 @@ fn read_one<'a>(
         s,
         &mut work[from..to],
     );
-    kinds[k] = read.kind;
-    places[k] = read.place;
-    records[k] = read.records;
+    put_mark(k, mark_read(read), kinds, places, companions);
+    put_number(records, k, read.records);
 }
 
 // Whether mark m reads file k, of n files' marks and those of the rules.
@@ -217,11 +232,12 @@ fn read_needed<'a>(
     work: &mut [u32],
     kinds: &mut [u32],
     places: &mut [usize],
+    companions: &mut [usize],
     records: &mut [usize],
 )
-    requires { ⌜ (length (now forms) / 2 ≤ 32) × (roomStart (expectedIn (now forms) (now fields) (now names) (now fixed)) (length (now forms) / 2) ≤ length (now work)) × (length (now starts) ≡ 33) × (length (now kinds) ≡ 32) × (length (now places) ≡ 32) × (length (now records) ≡ 32) ⌝ }
+    requires { ⌜ (length (now forms) / 2 ≤ 32) × (roomStart (expectedIn (now forms) (now fields) (now names) (now fixed)) (length (now forms) / 2) ≤ length (now work)) × (length (now starts) ≡ 33) × (haveLength 32 (marksIn (now kinds) (now places) (now companions)) ≡ true) × (length (now records) ≡ 32) ⌝ }
     requires { ⌜ Starts (roomStart (expectedIn (now forms) (now fields) (now names) (now fixed))) (length (now forms) / 2) (now starts) ⌝ }
-    ensures { λ _. ⌜ ReadTo (length (now (forms .entry)) / 2) (expectedIn (now (forms .entry)) (now (fields .entry)) (now (names .entry)) (now (fixed .entry))) (needed (length (now (forms .entry)) / 2) (length (now (rules .entry)) / 9) (ruleFrom (now (rules .entry))) scope) (standing (now (a .entry)) (now (b .entry)) (now (c .entry)) (now (stand .entry))) (now (work .exit)) (now (kinds .exit)) (now (places .exit)) (now (records .exit)) ⌝ }
+    ensures { λ _. ⌜ ReadTo (length (now (forms .entry)) / 2) (expectedIn (now (forms .entry)) (now (fields .entry)) (now (names .entry)) (now (fixed .entry))) (needed (length (now (forms .entry)) / 2) (length (now (rules .entry)) / 9) (ruleFrom (now (rules .entry))) scope) (standing (now (a .entry)) (now (b .entry)) (now (c .entry)) (now (stand .entry))) (now (work .exit)) (marksIn (now (kinds .exit)) (now (places .exit)) (now (companions .exit))) (now (records .exit)) ⌝ }
     ensures { λ _. ⌜ now (work .exit) ≡ workRead (expectedIn (now (forms .entry)) (now (fields .entry)) (now (names .entry)) (now (fixed .entry))) (needed (length (now (forms .entry)) / 2) (length (now (rules .entry)) / 9) (ruleFrom (now (rules .entry))) scope) (standing (now (a .entry)) (now (b .entry)) (now (c .entry)) (now (stand .entry))) (length (now (forms .entry)) / 2) (now (work .entry)) ⌝ }
 {
     let n = forms.len() / 2;
@@ -245,6 +261,7 @@ fn read_needed<'a>(
                 work,
                 kinds,
                 places,
+                companions,
                 records,
             );
             k += 1;
@@ -270,12 +287,14 @@ fn put_marks<'a>(
     work: &[u32],
     own_kinds: &[u32],
     own_places: &[usize],
+    own_companions: &[usize],
     records: &[usize],
     kinds: &mut [u32],
     places: &mut [usize],
+    companions: &mut [usize],
 )
-    requires { ⌜ (length (now kinds) ≡ length (now forms) / 2 + length (now rules) / 9) × (length (now places) ≡ length (now forms) / 2 + length (now rules) / 9) ⌝ }
-    ensures { λ _. ⌜ marksIn (now (kinds .exit)) (now (places .exit)) ≡ marksFrom (length (now (forms .entry)) / 2 + length (now (rules .entry)) / 9) (putMark (length (now (forms .entry)) / 2) (ruleFrom (now (rules .entry))) scope (foundMark (length (now (forms .entry)) / 2) (ruleFrom (now (rules .entry))) (now (values .entry)) (now (texts .entry)) (tableIn (standing (now (a .entry)) (now (b .entry)) (now (c .entry)) (now (stand .entry))) (countIn (now (forms .entry)) (now (fields .entry))) (now (starts .entry)) (now (work .entry)) (now (records .entry))) (marksIn (now («own_kinds» .entry)) (now («own_places» .entry)))) (marksIn (now (kinds .entry)) (now (places .entry)))) ⌝ }
+    requires { ⌜ haveLength (length (now forms) / 2 + length (now rules) / 9) (marksIn (now kinds) (now places) (now companions)) ≡ true ⌝ }
+    ensures { λ _. ⌜ marksIn (now (kinds .exit)) (now (places .exit)) (now (companions .exit)) ≡ marksFrom (length (now (forms .entry)) / 2 + length (now (rules .entry)) / 9) (putMark (length (now (forms .entry)) / 2) (ruleFrom (now (rules .entry))) scope (foundMark (length (now (forms .entry)) / 2) (ruleFrom (now (rules .entry))) (now (values .entry)) (now (texts .entry)) (tableIn (standing (now (a .entry)) (now (b .entry)) (now (c .entry)) (now (stand .entry))) (countIn (now (forms .entry)) (now (fields .entry))) (now (starts .entry)) (now (work .entry)) (now (records .entry))) (marksIn (now («own_kinds» .entry)) (now («own_places» .entry)) (now («own_companions» .entry)))) (marksIn (now (kinds .entry)) (now (places .entry)) (now (companions .entry)))) ⌝ }
 {
     let n = forms.len() / 2;
     let marks = n + rule_count(rules);
@@ -298,10 +317,10 @@ fn put_marks<'a>(
                 work,
                 own_kinds,
                 own_places,
+                own_companions,
                 records,
             );
-            kinds[m] = mark.kind;
-            places[m] = mark.place;
+            put_mark(m, mark, kinds, places, companions);
             m += 1;
         } else {
             m += 1;
@@ -310,15 +329,11 @@ fn put_marks<'a>(
 }
 
 // Whether the lists are of just as many marks as n files and the rules have.
-fn has_lists(n: usize, rules: &[u32], kinds: &[u32], places: &[usize]) -> bool
+fn has_lists(n: usize, rules: &[u32], kinds: &[u32], places: &[usize], companions: &[usize]) -> bool
     requires { ⌜ n ≤ 32 ⌝ }
-    ensures { λ r. ⌜ r ≡ eqb (length (now (kinds .entry))) (n + length (now (rules .entry)) / 9) && eqb (length (now (places .entry))) (n + length (now (rules .entry)) / 9) ⌝ }
+    ensures { λ r. ⌜ r ≡ haveLength (n + length (now (rules .entry)) / 9) (marksIn (now (kinds .entry)) (now (places .entry)) (now (companions .entry))) ⌝ }
 {
-    let marks = n + rule_count(rules);
-    if kinds.len() == marks {
-        return places.len() == marks;
-    }
-    false
+    have_length(n + rule_count(rules), kinds, places, companions)
 }
 
 // Reads the files that are needed into their places of `work` and puts the judged marks over those of
@@ -340,14 +355,16 @@ fn judge_marks<'a>(
     work: &mut [u32],
     kinds: &mut [u32],
     places: &mut [usize],
+    companions: &mut [usize],
 )
-    requires { ⌜ (length (now forms) / 2 ≤ 32) × (roomStart (expectedIn (now forms) (now fields) (now names) (now fixed)) (length (now forms) / 2) ≤ length (now work)) × (length (now starts) ≡ 33) × (length (now kinds) ≡ length (now forms) / 2 + length (now rules) / 9) × (length (now places) ≡ length (now forms) / 2 + length (now rules) / 9) ⌝ }
+    requires { ⌜ (length (now forms) / 2 ≤ 32) × (roomStart (expectedIn (now forms) (now fields) (now names) (now fixed)) (length (now forms) / 2) ≤ length (now work)) × (length (now starts) ≡ 33) × (haveLength (length (now forms) / 2 + length (now rules) / 9) (marksIn (now kinds) (now places) (now companions)) ≡ true) ⌝ }
     requires { ⌜ Starts (roomStart (expectedIn (now forms) (now fields) (now names) (now fixed))) (length (now forms) / 2) (now starts) ⌝ }
-    ensures { λ _. ⌜ marksIn (now (kinds .exit)) (now (places .exit)) ≡ newMarks (gateFrom (now (forms .entry)) (now (fields .entry)) (now (names .entry)) (now (fixed .entry)) (now (rules .entry)) (now (values .entry)) (now (texts .entry))) scope (standing (now (a .entry)) (now (b .entry)) (now (c .entry)) (now (stand .entry))) (marksIn (now (kinds .entry)) (now (places .entry))) ⌝ }
+    ensures { λ _. ⌜ marksIn (now (kinds .exit)) (now (places .exit)) (now (companions .exit)) ≡ newMarks (gateFrom (now (forms .entry)) (now (fields .entry)) (now (names .entry)) (now (fixed .entry)) (now (rules .entry)) (now (values .entry)) (now (texts .entry))) scope (standing (now (a .entry)) (now (b .entry)) (now (c .entry)) (now (stand .entry))) (marksIn (now (kinds .entry)) (now (places .entry)) (now (companions .entry))) ⌝ }
     ensures { λ _. ⌜ now (work .exit) ≡ workJudged (gateFrom (now (forms .entry)) (now (fields .entry)) (now (names .entry)) (now (fixed .entry)) (now (rules .entry)) (now (values .entry)) (now (texts .entry))) scope (standing (now (a .entry)) (now (b .entry)) (now (c .entry)) (now (stand .entry))) (now (work .entry)) ⌝ }
 {
     let mut own_kinds = [0u32; 32];
     let mut own_places = [0usize; 32];
+    let mut own_companions = [0usize; 32];
     let mut records = [0usize; 32];
     read_needed(
         a,
@@ -364,6 +381,7 @@ fn judge_marks<'a>(
         work,
         &mut own_kinds,
         &mut own_places,
+        &mut own_companions,
         &mut records,
     );
     put_marks(
@@ -381,14 +399,16 @@ fn judge_marks<'a>(
         work,
         &own_kinds,
         &own_places,
+        &own_companions,
         &records,
         kinds,
         places,
+        companions,
     );
 }
 
 // Judges the marks in scope from the files that stand in three slices, for the gate that the tables
-// describe: puts them over those of the two lists. Answers whether it could: a workspace that is too
+// describe: puts them over those of the lists. Answers whether it could: a workspace that is too
 // short, lists of another length than there are marks, or over 32 files leave everything as it is.
 pub fn judge_files<'a>(
     a: &'a [u8],
@@ -406,16 +426,17 @@ pub fn judge_files<'a>(
     work: &mut [u32],
     kinds: &mut [u32],
     places: &mut [usize],
+    companions: &mut [usize],
 ) -> bool
-    ensures { λ r. ⌜ r ≡ canJudge (gateFrom (now (forms .entry)) (now (fields .entry)) (now (names .entry)) (now (fixed .entry)) (now (rules .entry)) (now (values .entry)) (now (texts .entry))) (length (now (work .entry))) (marksIn (now (kinds .entry)) (now (places .entry))) ⌝ }
-    ensures { λ _. ⌜ marksIn (now (kinds .exit)) (now (places .exit)) ≡ marksAfter (gateFrom (now (forms .entry)) (now (fields .entry)) (now (names .entry)) (now (fixed .entry)) (now (rules .entry)) (now (values .entry)) (now (texts .entry))) scope (standing (now (a .entry)) (now (b .entry)) (now (c .entry)) (now (stand .entry))) (length (now (work .entry))) (marksIn (now (kinds .entry)) (now (places .entry))) ⌝ }
-    ensures { λ _. ⌜ now (work .exit) ≡ workAfterwards (gateFrom (now (forms .entry)) (now (fields .entry)) (now (names .entry)) (now (fixed .entry)) (now (rules .entry)) (now (values .entry)) (now (texts .entry))) scope (standing (now (a .entry)) (now (b .entry)) (now (c .entry)) (now (stand .entry))) (marksIn (now (kinds .entry)) (now (places .entry))) (now (work .entry)) ⌝ }
+    ensures { λ r. ⌜ r ≡ canJudge (gateFrom (now (forms .entry)) (now (fields .entry)) (now (names .entry)) (now (fixed .entry)) (now (rules .entry)) (now (values .entry)) (now (texts .entry))) (length (now (work .entry))) (marksIn (now (kinds .entry)) (now (places .entry)) (now (companions .entry))) ⌝ }
+    ensures { λ _. ⌜ marksIn (now (kinds .exit)) (now (places .exit)) (now (companions .exit)) ≡ marksAfter (gateFrom (now (forms .entry)) (now (fields .entry)) (now (names .entry)) (now (fixed .entry)) (now (rules .entry)) (now (values .entry)) (now (texts .entry))) scope (standing (now (a .entry)) (now (b .entry)) (now (c .entry)) (now (stand .entry))) (length (now (work .entry))) (marksIn (now (kinds .entry)) (now (places .entry)) (now (companions .entry))) ⌝ }
+    ensures { λ _. ⌜ now (work .exit) ≡ workAfterwards (gateFrom (now (forms .entry)) (now (fields .entry)) (now (names .entry)) (now (fixed .entry)) (now (rules .entry)) (now (values .entry)) (now (texts .entry))) scope (standing (now (a .entry)) (now (b .entry)) (now (c .entry)) (now (stand .entry))) (marksIn (now (kinds .entry)) (now (places .entry)) (now (companions .entry))) (now (work .entry)) ⌝ }
 {
     let n = forms.len() / 2;
     if 32 < n {
         return false;
     }
-    if !has_lists(n, rules, kinds, places) {
+    if !has_lists(n, rules, kinds, places, companions) {
         return false;
     }
     let mut starts = [0usize; 33];
@@ -438,6 +459,7 @@ pub fn judge_files<'a>(
             work,
             kinds,
             places,
+            companions,
         );
         return true;
     }

@@ -1,10 +1,10 @@
 // Answers cases of the whole gate, so that a test can ask the compiled code thousands of them in one
 // run. All numbers are little-endian u32. A case on standard input is seven numbers (what is asked, the
 // bundle's length, a file number, 1 for new bytes, their length, the output's length, a seed), the
-// bundle, for a change the handed board as 81 pairs of kind and place, and the new bytes.
-//   0 judge:  refusal, 81 pairs
-//   1 try:    refusal, 81 pairs
-//   2 make:   refusal, the new bundle's length, 81 pairs, the output, whose byte i was before
+// bundle, for a change the handed board as 81 times kind, place and companion, and the new bytes.
+//   0 judge:  refusal, board
+//   1 try:    refusal, board
+//   2 make:   refusal, the new bundle's length, board, the output, whose byte i was before
 //             the seed and 7 i together, its lowest eight bits
 //   3 lookup: 0 present, 1 omitted or 2 refused, refusal, length, the file
 //   4, 5, 6:  as 0, 1 and 2, in a lent workspace that holds other numbers than 0
@@ -39,62 +39,71 @@ fn fill_front(buf: &mut [u8], n: usize) -> bool {
     fill(STDIN_FILENO, &mut buf[..n])
 }
 
-// Takes a board's lists from 81 pairs.
-fn get_board(bytes: &[u8], kinds: &mut [u32], places: &mut [usize])
-    requires { ⌜ (length (now kinds) ≡ 81) × (length (now places) ≡ 81) ⌝ }
+// Takes a board's lists from 81 times three numbers.
+fn get_board(bytes: &[u8], kinds: &mut [u32], places: &mut [usize], companions: &mut [usize])
+    requires { ⌜ (length (now kinds) ≡ 81) × (length (now places) ≡ 81) × (length (now companions) ≡ 81) ⌝ }
 {
     let mut m = 0;
     while m < 81 {
-        kinds[m] = word_at(bytes, 8 * m);
-        places[m] = word_at(bytes, 8 * m + 4) as usize;
+        kinds[m] = word_at(bytes, 12 * m);
+        places[m] = word_at(bytes, 12 * m + 4) as usize;
+        companions[m] = word_at(bytes, 12 * m + 8) as usize;
         m += 1;
     }
 }
 
 fn read_board() -> Board {
-    let mut bytes = [0u8; 648];
+    let mut bytes = [0u8; 972];
     let mut kinds = [0u32; 81];
     let mut places = [0usize; 81];
+    let mut companions = [0usize; 81];
     fill(STDIN_FILENO, &mut bytes);
-    get_board(&bytes, &mut kinds, &mut places);
-    Board { kinds, places }
+    get_board(&bytes, &mut kinds, &mut places, &mut companions);
+    Board {
+        kinds,
+        places,
+        companions,
+    }
 }
 
 fn low(x: usize) -> u32 {
     (x % 4294967296) as u32
 }
 
-// Writes a board's lists as 81 pairs from a place on.
-fn put_board(out: &mut [u8], at: usize, kinds: &[u32], places: &[usize])
-    requires { ⌜ (at ≤ 8) × (length (now kinds) ≡ 81) × (length (now places) ≡ 81) ⌝ }
+// Writes a board's lists as 81 times three numbers from a place on.
+fn put_board(out: &mut [u8], at: usize, kinds: &[u32], places: &[usize], companions: &[usize])
+    requires { ⌜ (at ≤ 8) × (length (now kinds) ≡ 81) × (length (now places) ≡ 81) × (length (now companions) ≡ 81) ⌝ }
 {
     let mut m = 0;
     while m < 81 {
-        put_word(out, at + 8 * m, kinds[m]);
-        put_word(out, at + 8 * m + 4, low(places[m]));
+        put_word(out, at + 12 * m, kinds[m]);
+        put_word(out, at + 12 * m + 4, low(places[m]));
+        put_word(out, at + 12 * m + 8, low(companions[m]));
         m += 1;
     }
 }
 
 fn write_verdict(verdict: Verdict) -> bool {
-    let mut out = [0u8; 652];
+    let mut out = [0u8; 976];
     let board = verdict.board;
     let kinds = board.kinds;
     let places = board.places;
+    let companions = board.companions;
     put_word(&mut out, 0, verdict.refusal);
-    put_board(&mut out, 4, &kinds, &places);
+    put_board(&mut out, 4, &kinds, &places, &companions);
     io::write_all(STDOUT_FILENO, &out)
 }
 
 // The same with the new bundle's length.
 fn write_made(verdict: Verdict) -> bool {
-    let mut out = [0u8; 656];
+    let mut out = [0u8; 980];
     let board = verdict.board;
     let kinds = board.kinds;
     let places = board.places;
+    let companions = board.companions;
     put_word(&mut out, 0, verdict.refusal);
     put_word(&mut out, 4, low(verdict.length));
-    put_board(&mut out, 8, &kinds, &places);
+    put_board(&mut out, 8, &kinds, &places, &companions);
     io::write_all(STDOUT_FILENO, &out)
 }
 

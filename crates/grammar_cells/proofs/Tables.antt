@@ -144,7 +144,7 @@ module _ (fields : List Field) (s : Bytes) where
   abbrev Tabled : ℕ → ℕ → List ℕ → TableRead → Type 0
   Tabled at r cells t = t .read .kind ≡ 0 → ElementsIs at r cells t
 
-  after-element : (n at r : ℕ) (cells : List ℕ) (end : ℕ) (then : List ℕ) → ElementIs at r cells end then → ((next : ℕ) → Beside next → Tabled next (r + 1) then (elementsFrom n fields s next then (r + 1))) → (x : Next) → Following s end 0x5D x → NextAnswered aText 0 s afterElement (value ∷ After) (spaces ∷ []) x → Tabled at r cells (elim x [ More next ↦ elementsFrom n fields s next then (r + 1) | Ends last ↦ tableRead then (endOfFile s (last + 1) (r + 1)) | Neither place ↦ tableRead then (fault 11 place) ])
+  after-element : (n at r : ℕ) (cells : List ℕ) (end : ℕ) (then : List ℕ) → ElementIs at r cells end then → ((next : ℕ) → Beside next → Tabled next (r + 1) then (elementsFrom n fields s next then (r + 1))) → (x : Next) → Following s end 0x5D x → NextAnswered aText 0 s afterElement (value ∷ After) (spaces ∷ []) x → Tabled at r cells (elim x [ More next ↦ elementsFrom n fields s next then (r + 1) | Ends last ↦ tableRead then (endOfFile s (last + 1) (r + 1)) | Neither place ↦ tableRead then (fault 11 place 0) ])
   after-element n at r cells end then e rest (More next) h a = λ q. more-elements at r cells end then e next _ h (rest next a q)
   after-element n at r cells end then e rest (Ends last) h a = λ q. last-element at r cells end then e last (h .0) _ (end-is (last + 1) (r + 1) (omega (arith, h .1)) q)
   after-element n at r cells end then e rest (Neither place) h a = λ q. faulty (omega arith) q
@@ -154,9 +154,9 @@ module _ (fields : List Field) (s : Bytes) where
         elim (nextAfter s end 93) [
           | More next ↦ elementsFrom n fields s next then (r + 1)
           | Ends last ↦ tableRead then (endOfFile s (last + 1) (r + 1))
-          | Neither place ↦ tableRead then (fault 11 place)
+          | Neither place ↦ tableRead then (fault 11 place 0)
         ]
-    | Fault kind place ↦ tableRead then (fault kind place)
+    | Fault kind place ↦ tableRead then (fault kind place (r + 1))
   ])
   element-turn n at r cells then (Whole end) a e rest =
       after-element n at r cells end then (e end refl) rest (nextAfter s end 93) (next-is s end 93 (a .inside) (omega arith)) (element-next s fields end a)

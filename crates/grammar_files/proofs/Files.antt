@@ -84,7 +84,7 @@ module _ (s : Bytes) where
     element-next end a =
         next-at aText 0 s afterElement anElement (spaces ∷ []) 93 (omega arith) refl refl (λ b n m. rw (rowOf, ne-eqb b 93 m, ne-eqb b 44 n)) end a
 
-    after-element : (n : ℕ) (cells : List ℕ) (end r : ℕ) → ((next : ℕ) → end < next → At aText 0 s (value ∷ After) next → Marked s (elementsFrom n fields s next cells (r + 1) .read)) → (x : Next) → NextIn s end x → NextAnswered aText 0 s afterElement (value ∷ After) (spaces ∷ []) x → Marked s (elim x as (λ _. TableRead) [ More next ↦ elementsFrom n fields s next cells (r + 1) | Ends last ↦ tableRead cells (endOfFile s (last + 1) (r + 1)) | Neither place ↦ tableRead cells (fault 11 place) ] .read)
+    after-element : (n : ℕ) (cells : List ℕ) (end r : ℕ) → ((next : ℕ) → end < next → At aText 0 s (value ∷ After) next → Marked s (elementsFrom n fields s next cells (r + 1) .read)) → (x : Next) → NextIn s end x → NextAnswered aText 0 s afterElement (value ∷ After) (spaces ∷ []) x → Marked s (elim x as (λ _. TableRead) [ More next ↦ elementsFrom n fields s next cells (r + 1) | Ends last ↦ tableRead cells (endOfFile s (last + 1) (r + 1)) | Neither place ↦ tableRead cells (fault 11 place 0) ] .read)
     after-element n cells end r rest (More next) h a = rest next (h .0) a
     after-element n cells end r rest (Ends last) h a = end-at (last + 1) (r + 1) (a .1)
     after-element n cells end r rest (Neither place) h a = inr a
@@ -94,9 +94,9 @@ module _ (s : Bytes) where
           elim (nextAfter s end 93) [
             | More next ↦ elementsFrom n fields s next cells (r + 1)
             | Ends last ↦ tableRead cells (endOfFile s (last + 1) (r + 1))
-            | Neither place ↦ tableRead cells (fault 11 place)
+            | Neither place ↦ tableRead cells (fault 11 place 0)
           ]
-      | Fault kind place ↦ tableRead cells (fault kind place)
+      | Fault kind place ↦ tableRead cells (fault kind place (r + 1))
     ] .read)
     element-turn n cells at r rest (Whole end) h a =
         after-element n cells end r (λ next l b. rest next (omega (arith, h .0)) b) (nextAfter s end 93) (next-in s end (h .1) 93 (omega arith)) (element-next end a)

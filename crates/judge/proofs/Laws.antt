@@ -10,7 +10,7 @@ use lib.Dec.{leb}
 use borrow.Author.Tests.{le-leb, lt-ltb, le-ltb}
 use Rattle.board.specs.declared.Board.{Board}
 use Rattle.report.specs.Report.{reportOf}
-use Rattle.board.specs.Board.{boardOf, marksOn}
+use Rattle.board.specs.Board.{marksOn}
 use Rattle.gate_calls.specs.Calls.{judgement}
 use Rattle.schedule.specs.Schedule.{schedule}
 use Rattle.gate.specs.Gate.{verdictOf}
@@ -18,9 +18,9 @@ use Rattle.gate.specs.declared.Verdict.{Verdict}
 use Rattle.judge.specs.Printed.{printed}
 
 -- a report's length and its text in an output that is long enough
-module _ (refusal : ℕ) (board : Board) (out : List ℕ) (room : 4096 ≤ length out) {r : ℕ} {exit : List ℕ} (e : r ≡ cond (leb 4096 (length out)) (length (reportOf refusal (marksOn board))) 0) (q : exit ≡ cond (leb 4096 (length out)) (reportOf refusal (marksOn board) ++ drop (length (reportOf refusal (marksOn board))) out) out) where
+module _ (refusal : ℕ) (board : Board) (out : List ℕ) (room : 6144 ≤ length out) {r : ℕ} {exit : List ℕ} (e : r ≡ cond (leb 6144 (length out)) (length (reportOf refusal (marksOn board))) 0) (q : exit ≡ cond (leb 6144 (length out)) (reportOf refusal (marksOn board) ++ drop (length (reportOf refusal (marksOn board))) out) out) where
   pub report-front : take r exit ≡ reportOf refusal (marksOn board)
-  report-front = rw (e, q, le-leb 4096 (length out) room) (take-append-seam (reportOf refusal (marksOn board)) (drop (length (reportOf refusal (marksOn board))) out))
+  report-front = rw (e, q, le-leb 6144 (length out) room) (take-append-seam (reportOf refusal (marksOn board)) (drop (length (reportOf refusal (marksOn board))) out))
 
 -- the report of a judgement, and that of a bundle that is too long
 pub judged : (s : List ℕ) → length s ≤ 65536 → {v : Verdict} → v ≡ verdictOf (judgement schedule s) → reportOf (v .refusal) (marksOn (v .board)) ≡ printed s

@@ -14,7 +14,7 @@ use program_io::read_all;
 
 // Puts the text of a bundle's judgement at the front of an output, and answers its length.
 fn put_judgement(bundle: &[u8], out: &mut [u8]) -> usize
-    requires { ⌜ 4096 ≤ length (now out) ⌝ }
+    requires { ⌜ 6144 ≤ length (now out) ⌝ }
     ensures { λ r. ⌜ take r (now (out .exit)) ≡ printed (now (bundle .entry)) ⌝ }
 {
     if 65536 < bundle.len() {
@@ -29,7 +29,7 @@ fn put_judgement(bundle: &[u8], out: &mut [u8]) -> usize
 fn answer(bundle: &mut [u8]) {
     match read_all(STDIN_FILENO, bundle) {
         Input::Whole { n } => {
-            let mut text = [0u8; 4096];
+            let mut text = [0u8; 6144];
             let length = put_judgement(part(bundle, 0, n), &mut text);
             print(part(&text, 0, length));
         }

@@ -8,7 +8,7 @@ use program_io::complain;
 use program_io::print;
 
 fn print_judgement(bundle: &[u8]) {
-    let mut text = [0u8; 4096];
+    let mut text = [0u8; 6144];
     let verdict = judge(bundle);
     let board = verdict.board;
     let n = report_board(verdict.refusal, board, &mut text);

@@ -31,16 +31,16 @@ infix 70 _gives_
 abbrev pub _gives_ : List ℕ → List ℕ → Case
 _gives_ answered stated = record { answered = answered; stated = stated }
 
--- ---- Marks, "each a kind and a place"
-abbrev pub mark : ℕ → ℕ → List ℕ
-mark kind place = kind ∷ place ∷ []
+-- ---- Marks, "each a kind and a place", and order 5's third number
+abbrev pub mark : ℕ → ℕ → ℕ → List ℕ
+mark kind place companion = kind ∷ place ∷ companion ∷ []
 
 -- "Kind 0 place 0: holds"; "Kind 1: broken, place the first breaking record"
 abbrev pub holds : List ℕ
-holds = mark 0 0
+holds = mark 0 0 0
 
-abbrev pub broken : ℕ → List ℕ
-broken place = mark 1 place
+abbrev pub broken : ℕ → ℕ → List ℕ
+broken place companion = mark 1 place companion
 
 -- ---- Marks 0 to 19
 -- a file by its number and its text, read into cells that are 0; 64 are enough for each text below
@@ -48,7 +48,7 @@ unfoldable pub reading : ℕ → String → TableRead
 reading file s = fileOf (schedule .expected file) (Given (codes s)) (replicate 64 0)
 
 unfoldable pub fileMark : ℕ → String → List ℕ
-fileMark file s = let r = reading file s .read in mark (r .kind) (r .place)
+fileMark file s = let r = reading file s .read in mark (r .kind) (r .place) (r .companion)
 
 -- the file as the rules see it
 unfoldable pub tableIn : ℕ → String → Table
@@ -64,7 +64,7 @@ ruleMark m s =
     let kind = reading file s .read .kind in
     let t = tableIn file s in
     let r = markOf (isJudged kind kind) (ruleBreak valuePlaces valueTexts (ruleFor m) t t) in
-    mark (r .kind) (r .place)
+    mark (r .kind) (r .place) (r .companion)
 
 -- ---- What else the cases ask for
 -- an Integer of zero or more; nothing for any other
@@ -135,62 +135,65 @@ withLevel = arrayOf "{\"TaskID\":\"T\",\"Level\":"
 unfoldable pub cases : List Case
 cases =
     -- P1 `ENG-01` and `eng-01` are one ID: mark 22, the key of Calendars
-    ruleMark 22 (withID (quoted "ENG-01" ∷ quoted "eng-01" ∷ [])) gives broken 2 ∷
+    ruleMark 22 (withID (quoted "ENG-01" ∷ quoted "eng-01" ∷ [])) gives broken 2 1 ∷
     ruleMark 22 (withID (quoted "ENG-01" ∷ quoted "eng-02" ∷ [])) gives holds ∷
     -- P2 Ordinal null, 0 and `0.0` are one key value: mark 23, the key of CalendarWorkshifts
-    ruleMark 23 (withOrdinal ("null" ∷ "0" ∷ [])) gives broken 2 ∷
-    ruleMark 23 (withOrdinal ("null" ∷ "0.0" ∷ [])) gives broken 2 ∷
-    ruleMark 23 (withOrdinal ("0" ∷ "0.0" ∷ [])) gives broken 2 ∷
+    ruleMark 23 (withOrdinal ("null" ∷ "0" ∷ [])) gives broken 2 1 ∷
+    ruleMark 23 (withOrdinal ("null" ∷ "0.0" ∷ [])) gives broken 2 1 ∷
+    ruleMark 23 (withOrdinal ("0" ∷ "0.0" ∷ [])) gives broken 2 1 ∷
     ruleMark 23 (withOrdinal ("0" ∷ "1" ∷ [])) gives holds ∷
     -- P3 `10e-1` is Integer 1; `0.5` is 34 (order 4 of document 02), in the place it had; 15 is for another JSON kind
     fileMark 7 (withOrdinal ("10e-1" ∷ [])) gives holds ∷
     ordinalIn (withOrdinal ("10e-1" ∷ [])) gives (1 ∷ []) ∷
-    fileMark 7 (withOrdinal ("0.5" ∷ [])) gives mark 34 29 ∷
-    fileMark 7 (withOrdinal (quoted "0  5" ∷ [])) gives mark 15 29 ∷
+    fileMark 7 (withOrdinal ("0.5" ∷ [])) gives mark 34 29 1 ∷
+    fileMark 7 (withOrdinal (quoted "0  5" ∷ [])) gives mark 15 29 1 ∷
     -- P4 `-0` isn't below zero: mark 68, "no hours below zero"
     ruleMark 68 (withHours ("-0" ∷ [])) gives holds ∷
-    ruleMark 68 (withHours ("-1" ∷ [])) gives broken 1 ∷
+    ruleMark 68 (withHours ("-1" ∷ [])) gives broken 1 0 ∷
     -- P5 `999999999999999` fits; `1000000000000000` fits as a Decimal (c 1, p 15: order 1 of document 02) and is 18 as an
     -- Integer
     fileMark 7 (withHours ("999999999999999" ∷ [])) gives holds ∷
     fileMark 7 (withHours ("1000000000000000" ∷ [])) gives holds ∷
     fileMark 7 (withOrdinal ("999999999999999" ∷ [])) gives holds ∷
-    fileMark 7 (withOrdinal ("1000000000000000" ∷ [])) gives mark 18 29 ∷
+    fileMark 7 (withOrdinal ("1000000000000000" ∷ [])) gives mark 18 29 1 ∷
     -- order 1: `8.0000000000000000` and `0e99` fit, `10e15` is 18: its p is 16
     fileMark 7 (withHours ("8.0000000000000000" ∷ [])) gives holds ∷
     fileMark 7 (withHours ("0e99" ∷ [])) gives holds ∷
-    fileMark 7 (withHours ("10e15" ∷ [])) gives mark 18 37 ∷
+    fileMark 7 (withHours ("10e15" ∷ [])) gives mark 18 37 1 ∷
     -- P6 Decimal `1e15` fits, `1e16` is 18; Integer `1e15` is 18
     fileMark 7 (withHours ("1e15" ∷ [])) gives holds ∷
-    fileMark 7 (withHours ("1e16" ∷ [])) gives mark 18 37 ∷
-    fileMark 7 (withOrdinal ("1e15" ∷ [])) gives mark 18 29 ∷
+    fileMark 7 (withHours ("1e16" ∷ [])) gives mark 18 37 1 ∷
+    fileMark 7 (withOrdinal ("1e15" ∷ [])) gives mark 18 29 1 ∷
     -- P7 2000-02-29 is a date, 1900-02-29 isn't: 17
     fileMark 8 (withDate (quoted "2000-02-29" ∷ [])) gives holds ∷
-    fileMark 8 (withDate (quoted "1900-02-29" ∷ [])) gives mark 17 35 ∷
+    fileMark 8 (withDate (quoted "1900-02-29" ∷ [])) gives mark 17 35 1 ∷
     -- P8 `A  B` (two spaces) breaks String and not Text: 31 at the second space (order 4)
-    fileMark 6 (withName (quoted "A  B" ∷ [])) gives mark 31 21 ∷
+    fileMark 6 (withName (quoted "A  B" ∷ [])) gives mark 31 21 1 ∷
     fileMark 6 (withComments (quoted "A  B" ∷ [])) gives holds ∷
     -- order 4: each kind, at the backslash of an escape
-    fileMark 6 (withComments (quoted "A\\u007F" ∷ [])) gives mark 30 35 ∷
-    fileMark 6 (withName (quoted "A\\tB" ∷ [])) gives mark 31 20 ∷
-    fileMark 6 (withID (quoted "A\\u00E9" ∷ [])) gives mark 32 20 ∷
-    fileMark 6 (withComments (quoted "A\\uD800" ∷ [])) gives mark 33 35 ∷
+    fileMark 6 (withComments (quoted "A\\u007F" ∷ [])) gives mark 30 35 1 ∷
+    fileMark 6 (withName (quoted "A\\tB" ∷ [])) gives mark 31 20 1 ∷
+    fileMark 6 (withID (quoted "A\\u00E9" ∷ [])) gives mark 32 20 1 ∷
+    fileMark 6 (withComments (quoted "A\\uD800" ∷ [])) gives mark 33 35 1 ∷
     -- a space at the start and at the end
-    fileMark 6 (withName (quoted " A" ∷ [])) gives mark 31 19 ∷
-    fileMark 6 (withName (quoted "A " ∷ [])) gives mark 31 20 ∷
+    fileMark 6 (withName (quoted " A" ∷ [])) gives mark 31 19 1 ∷
+    fileMark 6 (withName (quoted "A " ∷ [])) gives mark 31 20 1 ∷
     -- two faults of one character: the lower kind; of two characters: the first
-    fileMark 6 (withID (quoted "A\\u000B" ∷ [])) gives mark 30 20 ∷
-    fileMark 6 (withID (quoted "A\\tB" ∷ [])) gives mark 31 20 ∷
-    fileMark 6 (withID (quoted "A\\uD800" ∷ [])) gives mark 32 20 ∷
-    fileMark 6 (withID (quoted "\\u00E9\\u007F" ∷ [])) gives mark 32 19 ∷
+    fileMark 6 (withID (quoted "A\\u000B" ∷ [])) gives mark 30 20 1 ∷
+    fileMark 6 (withID (quoted "A\\tB" ∷ [])) gives mark 31 20 1 ∷
+    fileMark 6 (withID (quoted "A\\uD800" ∷ [])) gives mark 32 20 1 ∷
+    fileMark 6 (withID (quoted "\\u00E9\\u007F" ∷ [])) gives mark 32 19 1 ∷
+    -- order 5: a fault in the second record names it; the earliest of equal keys is named
+    fileMark 6 (withName (quoted "A" ∷ quoted " A" ∷ [])) gives mark 31 41 2 ∷
+    ruleMark 22 (withID (quoted "A" ∷ quoted "B" ∷ quoted "b" ∷ [])) gives broken 3 2 ∷
     -- P9 Levels 1,2,3,3,2 have parents none,1,2,2,1
     parentsIn (withLevel ("1" ∷ "2" ∷ "3" ∷ "3" ∷ "2" ∷ [])) gives (0 ∷ 1 ∷ 2 ∷ 2 ∷ 1 ∷ []) ∷
     -- P10 Levels 1,3 break mark 78 at 2; 1,1 doesn't
-    ruleMark 78 (withLevel ("1" ∷ "3" ∷ [])) gives broken 2 ∷
+    ruleMark 78 (withLevel ("1" ∷ "3" ∷ [])) gives broken 2 0 ∷
     ruleMark 78 (withLevel ("1" ∷ "1" ∷ [])) gives holds ∷
     -- P11 Resources `[{"ID":"R1","Name":"Fitter"}]` is 19 at 27; `[{}]` is 19 at 2; `[]` holds
-    fileMark 16 "[{\"ID\":\"R1\",\"Name\":\"Fitter\"}]" gives mark 19 27 ∷
-    fileMark 16 "[{}]" gives mark 19 2 ∷
+    fileMark 16 "[{\"ID\":\"R1\",\"Name\":\"Fitter\"}]" gives mark 19 27 0 ∷
+    fileMark 16 "[{}]" gives mark 19 2 0 ∷
     fileMark 16 "[]" gives holds ∷
     -- P12 A changed file 9 touches marks 9, 25, 39–42, 51, 53, 55–57, 59, 60, 64, 71–74 and 80: 19 marks; 62 come back
     touched 9 gives (9 ∷ 25 ∷ 39 ∷ 40 ∷ 41 ∷ 42 ∷ 51 ∷ 53 ∷ 55 ∷ 56 ∷ 57 ∷ 59 ∷ 60 ∷ 64 ∷ 71 ∷ 72 ∷ 73 ∷ 74 ∷ 80 ∷ []) ∷

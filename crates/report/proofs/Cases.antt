@@ -13,8 +13,8 @@ use Rattle.mark_numbers.specs.declared.Mark.{Mark}
 use Rattle.report.specs.Report.{decimal, reportOf, textRoom, textIn}
 use Rattle.report.proofs.Opens.{open-report}
 
-abbrev mark : ℕ → ℕ → Mark
-mark kind place = record { kind = kind; place = place }
+abbrev mark : ℕ → ℕ → ℕ → Mark
+mark kind place companion = record { kind = kind; place = place; companion = companion }
 
 abbrev isIn : ℕ → List ℕ → Bool
 isIn m [] = false
@@ -22,21 +22,21 @@ isIn m (k ∷ ks) = eqb m k || isIn m ks
 
 -- "The bundle with all 20 files omitted": files 0, 1 and 3 are demanded, and four rules read 1 or 3 alone
 abbrev allOmitted : Marks
-allOmitted = marksFrom 81 (λ m. cond (isIn m (0 ∷ 1 ∷ 3 ∷ [])) (mark 21 0) (cond (isIn m (36 ∷ 37 ∷ 65 ∷ 66 ∷ [])) notJudged holds))
+allOmitted = marksFrom 81 (λ m. cond (isIn m (0 ∷ 1 ∷ 3 ∷ [])) (mark 21 0 0) (cond (isIn m (36 ∷ 37 ∷ 65 ∷ 66 ∷ [])) notJudged holds))
 
--- the last byte of the largest bundle, and the last record
+-- the last byte of the largest bundle, and the last two records
 abbrev farPlaces : Marks
-farPlaces = marksFrom 81 (λ m. cond (eqb m 19) (mark 11 1048575) (cond (eqb m 80) (mark 1 4096) holds))
+farPlaces = marksFrom 81 (λ m. cond (eqb m 19) (mark 11 1048575 0) (cond (eqb m 80) (mark 1 4096 4095) holds))
 
 abbrev nineteen : Marks
-nineteen = marksFrom 19 (λ m. cond (eqb m 18) (mark 1 7) holds)
+nineteen = marksFrom 19 (λ m. cond (eqb m 18) (mark 1 7 3) holds)
 
 pub boards : map (reportOf 0) (allOmitted ∷ marksFrom 81 (λ m. holds) ∷ farPlaces ∷ nineteen ∷ [])
     ≡ map codes
-    ("marks 81\n0 21 0\n1 21 0\n3 21 0\n36 2 0\n37 2 0\n65 2 0\n66 2 0\nrefused 7\n" ∷
+    ("marks 81\n0 21 0 0\n1 21 0 0\n3 21 0 0\n36 2 0 0\n37 2 0 0\n65 2 0 0\n66 2 0 0\nrefused 7\n" ∷
     "marks 81\naccepted\n" ∷
-    "marks 81\n19 11 1048575\n80 1 4096\nrefused 2\n" ∷
-    "marks 19\n18 1 7\nrefused 1\n" ∷
+    "marks 81\n19 11 1048575 0\n80 1 4096 4095\nrefused 2\n" ∷
+    "marks 19\n18 1 7 3\nrefused 1\n" ∷
     [])
 unfolding open-report
 boards = refl
@@ -45,15 +45,15 @@ pub refusals : map (λ refusal. reportOf refusal (freshMarks 81)) (1 ∷ 2 ∷ 3
 unfolding open-report
 refusals = refl
 
-pub rooms : map textRoom (19 ∷ 81 ∷ 85 ∷ 999 ∷ []) ≡ 1616 ∷ 4096 ∷ 4256 ∷ 40816 ∷ []
+pub rooms : map textRoom (19 ∷ 81 ∷ 85 ∷ 999 ∷ []) ≡ 2176 ∷ 6144 ∷ 6400 ∷ 64896 ∷ []
 rooms = refl
 
 -- the room that is asked and one byte less, the most marks and one more, and lists that don't agree
-abbrev unjudged : ℕ → ℕ → Marks
-unjudged kinds places = marksIn (replicate kinds 2) (replicate places 0)
+abbrev unjudged : ℕ → ℕ → ℕ → Marks
+unjudged kinds places companions = marksIn (replicate kinds 2) (replicate places 0) (replicate companions 0)
 
-pub limits : textIn 1 (unjudged 81 81) 4096 ∷ textIn 1 (unjudged 81 81) 4095 ∷ textIn 1 (unjudged 999 999) 40816 ∷ textIn 1 (unjudged 1000 1000) 40856 ∷ textIn 1 (unjudged 81 80) 4096 ∷ []
-    ≡ map codes ("bundle 1\n" ∷ "" ∷ "bundle 1\n" ∷ "" ∷ "" ∷ [])
+pub limits : textIn 1 (unjudged 81 81 81) 6144 ∷ textIn 1 (unjudged 81 81 81) 6143 ∷ textIn 1 (unjudged 999 999 999) 64896 ∷ textIn 1 (unjudged 1000 1000 1000) 64960 ∷ textIn 1 (unjudged 81 80 81) 6144 ∷ textIn 1 (unjudged 81 81 80) 6144 ∷ []
+    ≡ map codes ("bundle 1\n" ∷ "" ∷ "bundle 1\n" ∷ "" ∷ "" ∷ "" ∷ [])
 unfolding open-report
 limits = refl
 

@@ -46,7 +46,7 @@ line-feeds : (m : ℕ) (mark : Mark) → feedsIn (lineOf m mark) ≡ cond (eqb (
 unfolding lineOf codes feedsIn
 line-feeds m mark = go (eqb (mark .kind) 0)
   where
-    go : (t : Bool) → feedsIn (cond t [] (decimal m ++ codes " " ++ decimal (mark .kind) ++ codes " " ++ decimal (mark .place) ++ codes "\n")) ≡ cond t 0 1
+    go : (t : Bool) → feedsIn (cond t [] (decimal m ++ codes " " ++ decimal (mark .kind) ++ codes " " ++ decimal (mark .place) ++ codes " " ++ decimal (mark .companion) ++ codes "\n")) ≡ cond t 0 1
     go true = refl
     go false = simp (feeds-append, decimal-feeds)
 

@@ -23,12 +23,12 @@ counted-length : (word : List ℕ) (x : ℕ) → x < 2 ^ 64 → length (counted 
 unfolding counted codes
 counted-length word x l = simp length-append (omega (arith, decimal-length x 19 (omega arith)))
 
--- a number below 1,000, one of 32 bits and one of 64, with a byte behind each
-line-length : (m : ℕ) (mark : Mark) → m < 1000 → mark .kind < 2 ^ 32 → mark .place < 2 ^ 64 → length (lineOf m mark) ≤ 36
+-- a number below 1,000, one of 32 bits and two of 64, with a byte behind each
+line-length : (m : ℕ) (mark : Mark) → m < 1000 → mark .kind < 2 ^ 32 → mark .place < 2 ^ 64 → mark .companion < 2 ^ 64 → length (lineOf m mark) ≤ 57
 unfolding lineOf codes
-line-length m mark l k p =
-    one-of (eqb (mark .kind) 0) [] _ 36 (omega arith)
-    (simp length-append (omega (arith, decimal-length m 2 (omega arith), decimal-length (mark .kind) 9 (omega arith), decimal-length (mark .place) 19 (omega arith))))
+line-length m mark l k p c =
+    one-of (eqb (mark .kind) 0) [] _ 57 (omega arith)
+    (simp length-append (omega (arith, decimal-length m 2 (omega arith), decimal-length (mark .kind) 9 (omega arith), decimal-length (mark .place) 19 (omega arith), decimal-length (mark .companion) 19 (omega arith))))
 
 faults-most : (kinds : List ℕ) (n : ℕ) → faultsUpTo kinds n ≤ n
 unfolding faultsUpTo
@@ -40,8 +40,8 @@ faults-most kinds (suc n) = go (eqb (getD kinds n 0) 0) (faults-most kinds n)
     go false l = omega arith
 
 -- of lists whose numbers are of their types
-module _ (marks : Marks) (kinds-fit : (m : ℕ) → Fits w32 (getD (marks .kinds) m 0)) (places-fit : (m : ℕ) → Fits w64 (getD (marks .places) m 0)) (few : length (marks .kinds) ≤ 999) where
-  lines-length : (n : ℕ) → n ≤ 999 → length (linesUpTo marks n) ≤ 36 * n
+module _ (marks : Marks) (kinds-fit : (m : ℕ) → Fits w32 (getD (marks .kinds) m 0)) (places-fit : (m : ℕ) → Fits w64 (getD (marks .places) m 0)) (companions-fit : (m : ℕ) → Fits w64 (getD (marks .companions) m 0)) (few : length (marks .kinds) ≤ 999) where
+  lines-length : (n : ℕ) → n ≤ 999 → length (linesUpTo marks n) ≤ 57 * n
   unfolding linesUpTo joined lineIn markIn
   lines-length zero l = omega arith
   lines-length (suc n) l =
@@ -49,7 +49,7 @@ module _ (marks : Marks) (kinds-fit : (m : ℕ) → Fits w32 (getD (marks .kinds
         arith,
         length-append (joined (lineIn marks) n) (lineIn marks n),
         lines-length n (omega arith),
-        line-length n (markIn marks n) (omega arith) (kinds-fit n .fits) (places-fit n .fits),
+        line-length n (markIn marks n) (omega arith) (kinds-fit n .fits) (places-fit n .fits) (companions-fit n .fits),
       )
 
   last-length : length (lastLine (marks .kinds)) ≤ 29

@@ -81,16 +81,16 @@ module _ (o : Output) (m : ℕ) (mark : Mark) where
   line-none z = rw (eq-eqb (mark .kind) 0 z)
 
   -- each number with the byte behind it
-  line-parts : ended m 32 ++ ended (mark .kind) 32 ++ ended (mark .place) 10
-      ≡ decimal m ++ codes " " ++ decimal (mark .kind) ++ codes " " ++ decimal (mark .place) ++ codes "\n"
+  line-parts : ended m 32 ++ ended (mark .kind) 32 ++ ended (mark .place) 32 ++ ended (mark .companion) 10
+      ≡ decimal m ++ codes " " ++ decimal (mark .kind) ++ codes " " ++ decimal (mark .place) ++ codes " " ++ decimal (mark .companion) ++ codes "\n"
   unfolding codes
   line-parts = simp append-assoc
 
-  pub line-put : (mark .kind ≡ 0 → ⊥) → {p q r : Output} → p ≡ put o (ended m 32) → q ≡ put p (ended (mark .kind) 32) → r ≡ put q (ended (mark .place) 10) → r ≡ put o (lineOf m mark)
+  pub line-put : (mark .kind ≡ 0 → ⊥) → {p q r s : Output} → p ≡ put o (ended m 32) → q ≡ put p (ended (mark .kind) 32) → r ≡ put q (ended (mark .place) 32) → s ≡ put r (ended (mark .companion) 10) → s ≡ put o (lineOf m mark)
   unfolding lineOf
-  line-put z e f g =
+  line-put z e f g h =
       rw (ne-eqb (mark .kind) 0 z, ← line-parts)
-      (put-then o _ (ended (mark .place) 10) (put-then o (ended m 32) (ended (mark .kind) 32) e f) g)
+      (put-then o _ (ended (mark .companion) 10) (put-then o _ (ended (mark .place) 32) (put-then o (ended m 32) (ended (mark .kind) 32) e f) g) h)
 
 -- the lines of the marks, one after the other
 module _ (marks : Marks) (o : Output) where
@@ -98,9 +98,9 @@ module _ (marks : Marks) (o : Output) where
   unfolding linesUpTo joined put
   lines-start = refl
 
-  pub lines-next : (m : ℕ) {p q : Output} → p ≡ put o (linesUpTo marks m) → q ≡ put p (lineOf m (markIn marks m)) → q ≡ put o (linesUpTo marks (m + 1))
+  pub lines-next : (m : ℕ) {x : Mark} {p q : Output} → x ≡ markIn marks m → p ≡ put o (linesUpTo marks m) → q ≡ put p (lineOf m x) → q ≡ put o (linesUpTo marks (m + 1))
   unfolding linesUpTo lineIn
-  lines-next m e h = rw (joined-next (lineIn marks) m) (put-then o (linesUpTo marks m) (lineIn marks m) e h)
+  lines-next m is e h = rw (joined-next (lineIn marks) m) (put-then o (linesUpTo marks m) (lineIn marks m) e (rw is at h))
 
   pub lines-end : (m n : ℕ) {p : Output} → m ≡ n → p ≡ put o (linesUpTo marks m) → p ≡ put o (linesUpTo marks n)
   lines-end m n e h = h ∙ ap (λ k. put o (linesUpTo marks k)) e

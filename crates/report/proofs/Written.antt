@@ -2,35 +2,36 @@
 -- Assumes nothing.
 use Prim.Native.Nat.{ℕ, _≤_, _<_}
 use mathlib.Core.Path.{_≡_, refl, ap, _∙_}
+use mathlib.Core.Bool.{true, false}
 use mathlib.Core.List.{List, [], _++_}
 use native.Mathlib.Omega.{arith}
 use borrow.Author.Tests.{le-leb, lt-leb, eq-eqb, ne-eqb}
 use lib.ListN.{length, drop}
 use Rattle.table_rows.specs.Ascii.{codes}
-use Rattle.mark_numbers.specs.Marks.{Marks}
+use Rattle.mark_numbers.specs.Marks.{Marks, haveLength}
 use Rattle.report.specs.Report.{counted, boardText, refusalText, reportOf, textRoom, isPrinted, textIn}
 use Rattle.report.specs.Output.{outputAt, put}
 use Rattle.report.proofs.Puts.{put-front}
 
 -- ---- what is written, by the tests for it
 module _ (refusal : ℕ) (marks : Marks) (room : ℕ) where
-  pub text-unequal : (length (marks .kinds) ≡ length (marks .places) → ⊥) → textIn refusal marks room ≡ []
+  pub text-unequal : haveLength (length (marks .kinds)) marks ≡ false → textIn refusal marks room ≡ []
   unfolding textIn isPrinted
-  text-unequal n = rw (ne-eqb _ _ n)
+  text-unequal n = rw n
 
-  module _ (same : length (marks .kinds) ≡ length (marks .places)) where
+  module _ (same : haveLength (length (marks .kinds)) marks ≡ true) where
     pub text-many : 999 < length (marks .kinds) → textIn refusal marks room ≡ []
     unfolding textIn isPrinted
-    text-many l = rw (eq-eqb _ _ same, lt-leb _ 999 l)
+    text-many l = rw (same, lt-leb _ 999 l)
 
     module _ (few : length (marks .kinds) ≤ 999) where
       pub text-short : room < textRoom (length (marks .kinds)) → textIn refusal marks room ≡ []
       unfolding textIn isPrinted
-      text-short l = rw (eq-eqb _ _ same, le-leb _ 999 few, lt-leb _ room l)
+      text-short l = rw (same, le-leb _ 999 few, lt-leb _ room l)
 
       pub text-whole : textRoom (length (marks .kinds)) ≤ room → textIn refusal marks room ≡ reportOf refusal marks
       unfolding textIn isPrinted
-      text-whole l = rw (eq-eqb _ _ same, le-leb _ 999 few, le-leb _ room l)
+      text-whole l = rw (same, le-leb _ 999 few, le-leb _ room l)
 
 -- ---- the answers of `report`
 module _ (refusal : ℕ) (marks : Marks) (d : List ℕ) where

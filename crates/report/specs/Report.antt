@@ -6,7 +6,7 @@ use lib.ListN.{length}
 use lib.Dec.{leb, ltb, eqb}
 use Rattle.table_rows.specs.Ascii.{codes}
 use Rattle.bundle_bytes.specs.Pieces.{joined}
-use Rattle.mark_numbers.specs.Marks.{Marks, markIn, faultsIn}
+use Rattle.mark_numbers.specs.Marks.{Marks, markIn, haveLength, faultsIn}
 use Rattle.mark_numbers.specs.declared.Mark.{Mark}
 
 -- ---- Numbers
@@ -24,11 +24,12 @@ decimal x = digitsIn (suc x) x
 unfoldable pub counted : List ℕ → ℕ → List ℕ
 counted word x = word ++ decimal x ++ codes "\n"
 
--- "for each mark of kind other than 0 a line of its number, kind and place, single spaces between"
+-- "for each mark of kind other than 0 a line of its number, kind and place, single spaces between", and by document 02,
+-- order 5, its companion behind them
 unfoldable pub lineOf : ℕ → Mark → List ℕ
 lineOf m mark =
     cond (eqb (mark .kind) 0) []
-    (decimal m ++ codes " " ++ decimal (mark .kind) ++ codes " " ++ decimal (mark .place) ++ codes "\n")
+    (decimal m ++ codes " " ++ decimal (mark .kind) ++ codes " " ++ decimal (mark .place) ++ codes " " ++ decimal (mark .companion) ++ codes "\n")
 
 unfoldable pub lineIn : Marks → ℕ → List ℕ
 lineIn marks m = lineOf m (markIn marks m)
@@ -60,11 +61,11 @@ reportOf refusal marks = cond (eqb refusal 0) (boardText marks) (refusalText ref
 -- ---- What is written
 -- the room that is asked for n marks, at most 999, and that each of their texts fits
 abbrev pub textRoom : ℕ → ℕ
-textRoom n = 40 * n + 856
+textRoom n = 64 * n + 960
 
 unfoldable pub isPrinted : Marks → ℕ → Bool
 isPrinted marks room =
-    eqb (length (marks .kinds)) (length (marks .places)) &&
+    haveLength (length (marks .kinds)) marks &&
     leb (length (marks .kinds)) 999 &&
     leb (textRoom (length (marks .kinds))) room
 

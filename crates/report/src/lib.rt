@@ -8,6 +8,8 @@ ghost use Rattle.report.specs.Report.{decimal, counted, lineOf, linesUpT
 ghost use Rattle.report.specs.Output.{outputAt, put, ended};
 use mark_numbers::Mark;
 use mark_numbers::count_faults;
+use mark_numbers::have_length;
+use mark_numbers::mark_in;
 
 // Puts a byte to a place, where there is room; answers the place behind it. The functions below put
 // what they make in the same way.
@@ -73,26 +75,29 @@ fn put_line(out: &mut [u8], at: usize, m: usize, mark: Mark) -> usize
 {
     let kind = mark.kind as usize;
     let place = mark.place;
+    let companion = mark.companion;
     if kind == 0 {
         return at;
     }
     let next = put_ended(out, at, m, b' ');
-    let last = put_ended(out, next, kind, b' ');
-    put_ended(out, last, place, b'\n')
+    let behind = put_ended(out, next, kind, b' ');
+    let last = put_ended(out, behind, place, b' ');
+    put_ended(out, last, companion, b'\n')
 }
 
-fn put_lines(out: &mut [u8], at: usize, kinds: &[u32], places: &[usize]) -> usize
-    requires { ⌜ length (now kinds) ≤ length (now places) ⌝ }
-    ensures { λ r. ⌜ outputAt (now (out .exit)) r ≡ put (outputAt (now (out .entry)) at) (linesUpTo (marksIn (now (kinds .entry)) (now (places .entry))) (length (now (kinds .entry)))) ⌝ }
+fn put_lines(
+    out: &mut [u8],
+    at: usize,
+    kinds: &[u32],
+    places: &[usize],
+    companions: &[usize],
+) -> usize
+    ensures { λ r. ⌜ outputAt (now (out .exit)) r ≡ put (outputAt (now (out .entry)) at) (linesUpTo (marksIn (now (kinds .entry)) (now (places .entry)) (now (companions .entry))) (length (now (kinds .entry)))) ⌝ }
 {
     let mut end = at;
     let mut m = 0;
     while m < kinds.len() {
-        let mark = Mark {
-            kind: kinds[m],
-            place: places[m],
-        };
-        end = put_line(out, end, m, mark);
+        end = put_line(out, end, m, mark_in(kinds, places, companions, m));
         m += 1;
     }
     end
@@ -110,34 +115,45 @@ fn put_last(out: &mut [u8], at: usize, kinds: &[u32]) -> usize
 }
 
 // The whole text of marks.
-fn put_board(out: &mut [u8], at: usize, kinds: &[u32], places: &[usize]) -> usize
-    requires { ⌜ length (now kinds) ≤ length (now places) ⌝ }
-    ensures { λ r. ⌜ outputAt (now (out .exit)) r ≡ put (outputAt (now (out .entry)) at) (boardText (marksIn (now (kinds .entry)) (now (places .entry)))) ⌝ }
+fn put_board(
+    out: &mut [u8],
+    at: usize,
+    kinds: &[u32],
+    places: &[usize],
+    companions: &[usize],
+) -> usize
+    ensures { λ r. ⌜ outputAt (now (out .exit)) r ≡ put (outputAt (now (out .entry)) at) (boardText (marksIn (now (kinds .entry)) (now (places .entry)) (now (companions .entry)))) ⌝ }
 {
     let lines = put_counted(out, at, b"marks ", kinds.len());
-    let last = put_lines(out, lines, kinds, places);
+    let last = put_lines(out, lines, kinds, places, companions);
     put_last(out, last, kinds)
 }
 
 // Writes the text of a refusal, or with none that of marks, to the front of an output that holds
 // every such text; answers its length. It writes nothing to a shorter output, and nothing of lists
 // that don't agree or have over 999 marks.
-pub fn report(refusal: u32, kinds: &[u32], places: &[usize], out: &mut [u8]) -> usize
-    ensures { λ r. ⌜ r ≡ length (textIn refusal (marksIn (now (kinds .entry)) (now (places .entry))) (length (now (out .entry)))) ⌝ }
-    ensures { λ _. ⌜ now (out .exit) ≡ textIn refusal (marksIn (now (kinds .entry)) (now (places .entry))) (length (now (out .entry))) ++ drop (length (textIn refusal (marksIn (now (kinds .entry)) (now (places .entry))) (length (now (out .entry))))) (now (out .entry)) ⌝ }
+pub fn report(
+    refusal: u32,
+    kinds: &[u32],
+    places: &[usize],
+    companions: &[usize],
+    out: &mut [u8],
+) -> usize
+    ensures { λ r. ⌜ r ≡ length (textIn refusal (marksIn (now (kinds .entry)) (now (places .entry)) (now (companions .entry))) (length (now (out .entry)))) ⌝ }
+    ensures { λ _. ⌜ now (out .exit) ≡ textIn refusal (marksIn (now (kinds .entry)) (now (places .entry)) (now (companions .entry))) (length (now (out .entry))) ++ drop (length (textIn refusal (marksIn (now (kinds .entry)) (now (places .entry)) (now (companions .entry))) (length (now (out .entry))))) (now (out .entry)) ⌝ }
     ensures { λ r. ⌜ r ≤ length (now (out .entry)) ⌝ }
 {
-    if kinds.len() != places.len() {
+    if !have_length(kinds.len(), kinds, places, companions) {
         return 0;
     }
     if 999 < kinds.len() {
         return 0;
     }
-    if out.len() < 40 * kinds.len() + 856 {
+    if out.len() < 64 * kinds.len() + 960 {
         return 0;
     }
     if refusal == 0 {
-        return put_board(out, 0, kinds, places);
+        return put_board(out, 0, kinds, places, companions);
     }
     put_counted(out, 0, b"bundle ", refusal as usize)
 }

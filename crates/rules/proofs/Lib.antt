@@ -1,2 +1,3 @@
 pub mod Laws
 pub mod Opens
+pub mod Companion

@@ -19,6 +19,7 @@ use Rattle.rule_shape.specs.declared.Rule.{Rule}
 use Rattle.rule_shape.specs.declared.Rule.the-variants.{KeyOf, OneOf, NullUnless, GivenIf, GivenUnless, NoneBelow, SomeAbove, Together, LevelRun, ParentGiven, TargetIn, ParentIs}
 use Rattle.rules.specs.declared.Break.{Break}
 use Rattle.mark_numbers.specs.declared.Mark.{Mark}
+use Rattle.mark_numbers.specs.Marks.{holds, notJudged}
 
 -- ---- The first breaking record, from 1, and the record that goes with it; 0 for none
 abbrev pub alone : ℕ → Break
@@ -62,6 +63,7 @@ ruleBreak places texts (ParentIs file parent level id other otherID otherType va
 unfoldable pub isJudged : ℕ → ℕ → Bool
 isJudged first second = eqb first 0 && eqb second 0
 
+-- document 02, order 5: the companion of a broken rule is the record that goes with it
 unfoldable pub markOf : Bool → Break → Mark
 markOf judged b =
-    cond judged (cond (eqb (b .«record») 0) (record { kind = 0; place = 0 }) (record { kind = 1; place = b .«record» })) (record { kind = 2; place = 0 })
+    cond judged (cond (eqb (b .«record») 0) holds (record { kind = 1; place = b .«record»; companion = b .other })) notJudged

@@ -232,16 +232,30 @@ pub fn is_judged(first: u32, second: u32) -> bool
     false
 }
 
-// The mark of a rule: kind 2 where it is not judged, else kind 1 at the breaking record, or kind 0.
+// The mark of a rule: kind 2 where it is not judged, else kind 1 at the breaking record with the record
+// that goes with it, or kind 0.
 pub fn mark_of(judged: bool, b: Break) -> Mark
     ensures { λ r. ⌜ r ≡ markOf judged b ⌝ }
 {
     let place = b.record;
+    let companion = b.other;
     if judged {
         if place == 0 {
-            return Mark { kind: 0, place: 0 };
+            return Mark {
+                kind: 0,
+                place: 0,
+                companion: 0,
+            };
         }
-        return Mark { kind: 1, place };
+        return Mark {
+            kind: 1,
+            place,
+            companion,
+        };
     }
-    Mark { kind: 2, place: 0 }
+    Mark {
+        kind: 2,
+        place: 0,
+        companion: 0,
+    }
 }

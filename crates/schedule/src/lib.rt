@@ -76,7 +76,7 @@ fn file_forms() -> [u32; 40]
 }
 
 // Judges the marks in scope from the files that stand in three slices and puts them over those of the
-// two lists. Answers whether it could: it takes a workspace of 794,702 numbers and lists of 81 marks.
+// lists. Answers whether it could: it takes a workspace of 794,702 numbers and lists of 81 marks.
 pub fn schedule_marks<'a>(
     a: &'a [u8],
     b: &'a [u8],
@@ -86,10 +86,11 @@ pub fn schedule_marks<'a>(
     work: &mut [u32],
     kinds: &mut [u32],
     places: &mut [usize],
+    companions: &mut [usize],
 ) -> bool
-    ensures { λ r. ⌜ r ≡ canJudge schedule (length (now (work .entry))) (marksIn (now (kinds .entry)) (now (places .entry))) ⌝ }
-    ensures { λ _. ⌜ marksIn (now (kinds .exit)) (now (places .exit)) ≡ marksAfter schedule scope (standing (now (a .entry)) (now (b .entry)) (now (c .entry)) (now (stand .entry))) (length (now (work .entry))) (marksIn (now (kinds .entry)) (now (places .entry))) ⌝ }
-    ensures { λ _. ⌜ now (work .exit) ≡ workAfterwards schedule scope (standing (now (a .entry)) (now (b .entry)) (now (c .entry)) (now (stand .entry))) (marksIn (now (kinds .entry)) (now (places .entry))) (now (work .entry)) ⌝ }
+    ensures { λ r. ⌜ r ≡ canJudge schedule (length (now (work .entry))) (marksIn (now (kinds .entry)) (now (places .entry)) (now (companions .entry))) ⌝ }
+    ensures { λ _. ⌜ marksIn (now (kinds .exit)) (now (places .exit)) (now (companions .exit)) ≡ marksAfter schedule scope (standing (now (a .entry)) (now (b .entry)) (now (c .entry)) (now (stand .entry))) (length (now (work .entry))) (marksIn (now (kinds .entry)) (now (places .entry)) (now (companions .entry))) ⌝ }
+    ensures { λ _. ⌜ now (work .exit) ≡ workAfterwards schedule scope (standing (now (a .entry)) (now (b .entry)) (now (c .entry)) (now (stand .entry))) (marksIn (now (kinds .entry)) (now (places .entry)) (now (companions .entry))) (now (work .entry)) ⌝ }
 {
     let forms = file_forms();
     let fields = field_rows();
@@ -114,5 +115,6 @@ pub fn schedule_marks<'a>(
         work,
         kinds,
         places,
+        companions,
     )
 }

@@ -9,10 +9,11 @@ use borrow.Author.Tests.{lt-ltb}
 use lib.ListN.{length, replicate}
 use lib.Dec.{ltb, leb}
 use Rattle.table_file.proofs.Opens.{open-files}
+use Rattle.json_bytes.proofs.FaultKinds.{below}
 use Rattle.parts.specs.Files.{File, Left, Given, bytesOf}
 use Rattle.table_rows.specs.Ascii.{codes}
 use Rattle.table_fields.specs.Fields.{fieldsOf, fileType}
-use Rattle.table_file.specs.Table.{holds, fault, TableRead, tableRead}
+use Rattle.table_file.specs.Table.{namesRecord, holds, fault, TableRead, tableRead}
 use Rattle.table_file.specs.File.{Form, Fixed, Single, Records, Expected, fileOf}
 use Rattle.table_file.proofs.FaultKinds.{countOf, cellsOf, fileKinds}
 use Rattle.table_file.proofs.Many.{manyRecords, many-short, many-given}
@@ -41,10 +42,12 @@ files =
     "[null]" ∷  -- no array of objects
     "[tru]" ∷  -- a literal is read whole, then judged
     "[[" ∷  -- an array where none belongs is judged at its opening byte
+    "[{\"id\"" ∷  -- a kind that names its record, the first
+    "[{\"ID\":\"1\",\"Name\":\"A\",\"ElementOfCostID\":\"X\"},{\"ID\":2" ∷  -- one that names the second
     []
 
 pub marks : map (λ file. resources file .read) files
-    ≡ (fault 19 27 ∷ fault 19 2 ∷ holds 0 ∷ holds 0 ∷ fault 11 2 ∷ fault 11 1 ∷ fault 11 0 ∷ fault 12 0 ∷ fault 12 1 ∷ fault 11 4 ∷ fault 12 1 ∷ [])
+    ≡ (fault 19 27 0 ∷ fault 19 2 0 ∷ holds 0 ∷ holds 0 ∷ fault 11 2 0 ∷ fault 11 1 0 ∷ fault 11 0 0 ∷ fault 12 0 0 ∷ fault 12 1 0 ∷ fault 11 4 0 ∷ fault 12 1 0 ∷ fault 13 2 1 ∷ fault 15 51 2 ∷ [])
 unfolding open-files
 marks = refl
 
@@ -58,21 +61,26 @@ unfolding open-files
 records = refl
 
 -- a singleton is an object
-pub singletons : map (λ file. fileOf (expected (Single (fieldsOf 16)) false) (Given (codes file)) cellsBefore .read) ("{}" ∷ "[]" ∷ "null " ∷ [])
-    ≡ (fault 19 1 ∷ fault 12 0 ∷ fault 12 0 ∷ [])
+pub singletons : map (λ file. fileOf (expected (Single (fieldsOf 16)) false) (Given (codes file)) cellsBefore .read) ("{}" ∷ "[]" ∷ "null " ∷ "{\"id\"" ∷ [])
+    ≡ (fault 19 1 0 ∷ fault 12 0 0 ∷ fault 12 0 0 ∷ fault 13 1 1 ∷ [])
 unfolding open-files
 singletons = refl
 
 -- 21: of the omitted files the required ones alone
-pub omissions : map (λ required. fileOf (expected (Records []) required) Left [] .read) (true ∷ false ∷ []) ≡ (fault 21 0 ∷ holds 0 ∷ [])
+pub omissions : map (λ required. fileOf (expected (Records []) required) Left [] .read) (true ∷ false ∷ []) ≡ (fault 21 0 0 ∷ holds 0 ∷ [])
 unfolding open-files
 omissions = refl
 
 -- 22: a fixed text is exactly its bytes, and neither fewer nor more
 pub types : map (λ file. fileOf (expected (Fixed fileType) true) (Given (codes file)) [] .read) ("IPMDAR_SCHEDULE_PERFORMANCE_DATASET/1.0" ∷ "IPMDAR_SCHEDULE_PERFORMANCE_DATASET/1.0 " ∷ "IPMDAR_SCHEDULE_PERFORMANCE_DATASET/1." ∷ "" ∷ [])
-    ≡ (holds 0 ∷ fault 22 0 ∷ fault 22 0 ∷ fault 22 0 ∷ [])
+    ≡ (holds 0 ∷ fault 22 0 0 ∷ fault 22 0 0 ∷ fault 22 0 0 ∷ [])
 unfolding open-files
 types = refl
+
+-- the kinds that name the record in which they stand
+pub naming : below namesRecord 100 ≡ (13 ∷ 14 ∷ 15 ∷ 16 ∷ 17 ∷ 18 ∷ 30 ∷ 31 ∷ 32 ∷ 33 ∷ 34 ∷ [])
+unfolding open-files below
+naming = refl
 
 -- ---- Each kind of a file's mark is given
 -- a file's kind, where it meets what `file-kinds` asks for; else 99, which is none

@@ -63,7 +63,7 @@ pub record Ways (most : ℕ) (fields : List Field) (s cells : List ℕ) (Q : Rea
   pub of-other : (at : ℕ) → Q (notObjectAt s at)
   pub of-many : (at : ℕ) → Q (Fault 20 at)
   pub of-stop : (at : ℕ) → Q (Fault 11 at)
-  pub of-fault : (then : List ℕ) (kind place : ℕ) → length then ≡ length cells → Q (Fault kind place) → P (tableRead then (fault kind place))
+  pub of-fault : (then : List ℕ) (kind place r : ℕ) → length then ≡ length cells → Q (Fault kind place) → P (tableRead then (fault kind place r))
   pub of-end : (then : List ℕ) (at records : ℕ) → length then ≡ length cells → records ≤ 4096 → P (tableRead then (endOfFile s at records))
 
 -- an element, with these cells before
@@ -79,7 +79,7 @@ module _ (most : ℕ) (fields : List Field) (s cells : List ℕ) (Q : Reading �
     where
       go : (r : Reading) → Q r → P (tableRead (f .cells) (singleRead s r))
       go (Whole end) h = ways .of-end (f .cells) end 1 e (omega arith)
-      go (Fault kind place) h = ways .of-fault (f .cells) kind place e h
+      go (Fault kind place) h = ways .of-fault (f .cells) kind place 1 e h
 
   module _ (table : 4096 ≤ most) where
     element-is : (at : ℕ) (now : List ℕ) (r : ℕ) → at ≤ length s → length now ≡ length cells → Element cells Q r (elementAt fields s at now r)
@@ -97,27 +97,27 @@ module _ (most : ℕ) (fields : List Field) (s cells : List ℕ) (Q : Reading �
 
     -- what follows an element, by what stands behind it
     module _ (n : ℕ) (then : List ℕ) (r : ℕ) (same : length then ≡ length cells) (rest : (next : ℕ) → next ≤ length s → P (elementsFrom n fields s next then (r + 1))) where
-      next-holds : (end : ℕ) → r < 4096 → (x : Next) → NextIn s end x → P (elim x [ More next ↦ elementsFrom n fields s next then (r + 1) | Ends last ↦ tableRead then (endOfFile s (last + 1) (r + 1)) | Neither place ↦ tableRead then (fault 11 place) ])
+      next-holds : (end : ℕ) → r < 4096 → (x : Next) → NextIn s end x → P (elim x [ More next ↦ elementsFrom n fields s next then (r + 1) | Ends last ↦ tableRead then (endOfFile s (last + 1) (r + 1)) | Neither place ↦ tableRead then (fault 11 place 0) ])
       next-holds end l (More next) h = rest next (h .1)
       next-holds end l (Ends last) h = ways .of-end then (last + 1) (r + 1) same (omega arith)
-      next-holds end l (Neither place) h = ways .of-fault then 11 place same (ways .of-stop place)
+      next-holds end l (Neither place) h = ways .of-fault then 11 place 0 same (ways .of-stop place)
 
       turn-holds : (at : ℕ) (o : Reading) → Below r o → Q o → Within s at o → P (elim o [
         | Whole end ↦
             elim (nextAfter s end 93) [
               | More next ↦ elementsFrom n fields s next then (r + 1)
               | Ends last ↦ tableRead then (endOfFile s (last + 1) (r + 1))
-              | Neither place ↦ tableRead then (fault 11 place)
+              | Neither place ↦ tableRead then (fault 11 place 0)
             ]
-        | Fault kind place ↦ tableRead then (fault kind place)
+        | Fault kind place ↦ tableRead then (fault kind place (r + 1))
       ])
       turn-holds at (Whole end) b q w =
           next-holds end b (nextAfter s end 93) (next-in s end (w .1) 93 (omega arith))
-      turn-holds at (Fault kind place) b q w = ways .of-fault then kind place same q
+      turn-holds at (Fault kind place) b q w = ways .of-fault then kind place (r + 1) same q
 
     elements-hold : (n at : ℕ) (now : List ℕ) (r : ℕ) → at ≤ length s → length now ≡ length cells → P (elementsFrom n fields s at now r)
     unfolding elementsFrom
-    elements-hold zero at now r l e = ways .of-fault now 11 at e (ways .of-stop at)
+    elements-hold zero at now r l e = ways .of-fault now 11 at 0 e (ways .of-stop at)
     elements-hold (suc n) at now r l e =
         let element = elementAt fields s at now r in
         let is = element-is at now r l e in
@@ -128,7 +128,7 @@ module _ (most : ℕ) (fields : List Field) (s cells : List ℕ) (Q : Reading �
     unfolding elementsOf
     array-holds at (More next) h = elements-hold (length s) next cells 0 (h .1) refl
     array-holds at (Ends last) h = ways .of-end cells (last + 1) 0 refl (omega arith)
-    array-holds at (Neither place) h = ways .of-fault cells 11 place refl (ways .of-stop place)
+    array-holds at (Neither place) h = ways .of-fault cells 11 place 0 refl (ways .of-stop place)
 
   other-holds : (at : ℕ) → P (singleOf s (filled cells (notObjectAt s at)))
   other-holds at = single-holds (filled cells (notObjectAt s at)) refl (ways .of-other at)

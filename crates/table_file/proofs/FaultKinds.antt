@@ -62,7 +62,7 @@ module _ (fields : List Field) (s cells : List ℕ) (single : Bool) (all : Room 
             (notObjectAt s at) (not-object-kinds s at);
         of-many = λ at. refl;
         of-stop = λ at. refl;
-        of-fault = λ then kind place e q. q;
+        of-fault = λ then kind place r e q. q;
         of-end = λ then at records e l. end-kinds s at records;
       })
       single (omega arith)

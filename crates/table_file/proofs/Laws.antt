@@ -31,6 +31,7 @@ use Rattle.table_record.proofs.Bounds.{NextIn, next-in, first-in, record-in}
 use Rattle.table_record.proofs.Laws.{record-none}
 use Rattle.table_file.specs.declared.FileRead.{FileRead}
 use Rattle.table_file.specs.Table.{
+  companionOf,
   fault,
   TableRead,
   tableRead,
@@ -125,10 +126,10 @@ module _ (fields : List Field) (s : List ℕ) (whole : TableRead) (cells : List 
   cells-told : elementAt fields s at cells r .cells ≡ then
   cells-told = sym (ap (λ (f : Filled). f .cells) isElement)
 
-  fault-by : (f : ℕ) → length s < at + f → at ≤ length s → elementsFrom f fields s at cells r ≡ whole → (kind place : ℕ) → o ≡ Fault kind place → tableRead then (fault kind place) ≡ whole
+  fault-by : (f : ℕ) → length s < at + f → at ≤ length s → elementsFrom f fields s at cells r ≡ whole → (kind place : ℕ) → o ≡ Fault kind place → (companion : ℕ) → companion ≡ companionOf kind (r + 1) → tableRead then (record { kind = kind; place = place; records = 0; companion = companion }) ≡ whole
   unfolding elementsFrom
-  fault-by zero m l q kind place e = absurd (omega arith)
-  fault-by (suc g) m l q kind place e = rw (outcome-told ∙ e, elementsFrom, cells-told) at q
+  fault-by zero m l q kind place e companion told = absurd (omega arith)
+  fault-by (suc g) m l q kind place e companion told = rw told (rw (outcome-told ∙ e, elementsFrom, cells-told) at q)
 
   module _ (end : ℕ) (isWhole : o ≡ Whole end) (x : Next) (isNext : x ≡ nextAfter s end 93) where
     more-by : (f : ℕ) → length s < at + f → at ≤ length s → r ≤ at → elementsFrom f fields s at cells r ≡ whole → (next : ℕ) → at < next → next ≤ length s → x ≡ More next → Left fields s whole then next (r + 1)
@@ -149,14 +150,14 @@ module _ (fields : List Field) (s : List ℕ) (whole : TableRead) (cells : List 
     ends-by (suc g) m l q last t e isEnd =
         rw isEnd (rw (outcome-told ∙ isWhole, elementsFrom, sym isNext ∙ e, elementsFrom, cells-told) at q)
 
-    neither-by : (f : ℕ) → length s < at + f → at ≤ length s → elementsFrom f fields s at cells r ≡ whole → (place : ℕ) → x ≡ Neither place → tableRead then (fault 11 place) ≡ whole
+    neither-by : (f : ℕ) → length s < at + f → at ≤ length s → elementsFrom f fields s at cells r ≡ whole → (place : ℕ) → x ≡ Neither place → tableRead then (fault 11 place 0) ≡ whole
     unfolding elementsFrom
     neither-by zero m l q place e = absurd (omega arith)
     neither-by (suc g) m l q place e =
         rw (outcome-told ∙ isWhole, elementsFrom, sym isNext ∙ e, elementsFrom, cells-told) at q
 
   module _ (left : Left fields s whole cells at r) where
-    pub turn-fault : (kind place : ℕ) → o ≡ Fault kind place → tableRead then (fault kind place) ≡ whole
+    pub turn-fault : (kind place : ℕ) → o ≡ Fault kind place → (companion : ℕ) → companion ≡ companionOf kind (r + 1) → tableRead then (record { kind = kind; place = place; records = 0; companion = companion }) ≡ whole
     turn-fault = fault-by (left .fuel) (left .enough) (left .inside) (left .reads)
 
     module _ (end : ℕ) (isWhole : o ≡ Whole end) (x : Next) (isNext : x ≡ nextAfter s end 93) where
@@ -183,7 +184,7 @@ module _ (fields : List Field) (s : List ℕ) (whole : TableRead) (cells : List 
       pub turn-ends : (last : ℕ) (t : FileRead) → x ≡ Ends last → t ≡ endOfFile s (last + 1) (r + 1) → tableRead then t ≡ whole
       turn-ends = ends-by end isWhole x isNext (left .fuel) (left .enough) (left .inside) (left .reads)
 
-      pub turn-neither : (place : ℕ) → x ≡ Neither place → tableRead then (fault 11 place) ≡ whole
+      pub turn-neither : (place : ℕ) → x ≡ Neither place → tableRead then (fault 11 place 0) ≡ whole
       turn-neither = neither-by end isWhole x isNext (left .fuel) (left .enough) (left .inside) (left .reads)
 
 -- ---- an array
@@ -214,7 +215,7 @@ module _ (fields : List Field) (s cells : List ℕ) (at b : ℕ) (isByte : b ≡
     unfolding elementsOf
     array-ends last t e isEnd = rw (array-whole, e, isEnd)
 
-    pub array-neither : (place : ℕ) → x ≡ Neither place → tableRead cells (fault 11 place) ≡ arrayAt fields s cells at
+    pub array-neither : (place : ℕ) → x ≡ Neither place → tableRead cells (fault 11 place 0) ≡ arrayAt fields s cells at
     unfolding elementsOf
     array-neither place e = rw (array-whole, e)
 

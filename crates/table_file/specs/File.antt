@@ -22,11 +22,11 @@ pub record Expected : Type 0 where
 
 -- 21: a required file omitted; "Any other omitted file holds and has no records."
 unfoldable pub omitted : Bool → FileRead
-omitted required = cond required (fault 21 0) (holds 0)
+omitted required = cond required (fault 21 0 0) (holds 0)
 
 -- 22: the file "isn't exactly" the text; only 21 and 22 concern such a file
 unfoldable pub fixedRead : List ℕ → List ℕ → FileRead
-fixedRead text s = cond (sameList s text) (holds 0) (fault 22 0)
+fixedRead text s = cond (sameList s text) (holds 0) (fault 22 0 0)
 
 unfoldable pub readAs : Form → List ℕ → List ℕ → TableRead
 readAs (Fixed text) s cells = tableRead cells (fixedRead text s)

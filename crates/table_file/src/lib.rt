@@ -7,10 +7,11 @@ ghost use Rattle.parts.specs.Files.{newFile};
 ghost use Rattle.json_same.specs.Same.{sameList};
 ghost use Rattle.table_rows.specs.Rows.{fieldsFrom};
 ghost use Rattle.table_record.specs.Record.{filled};
-ghost use Rattle.table_file.specs.Table.{tableRead, endOfFile, singleRead, singleAt, elementAt, elementsFrom, arrayAt, tableOf};
+ghost use Rattle.table_file.specs.Table.{tableRead, endOfFile, singleRead, singleAt, elementAt, elementsFrom, arrayAt, tableOf, companionOf};
 ghost use Rattle.table_file.specs.File.{omitted, fixedRead, fileOf, expectedFrom};
 use json_bytes::Reading;
 use json_bytes::byte_at;
+use json_bytes::is_within;
 use json_bytes::skip_spaces;
 use table_name::Next;
 use table_name::first_in;
@@ -25,11 +26,27 @@ pub const SINGLE: u32 = 1;
 
 pub const FIXED: u32 = 2;
 
-// The mark of a file, kind 0 and place 0 where it holds, and how many records it then has.
+// The mark of a file, kind 0 and place 0 where it holds, and how many records it then has. The mark's
+// third number is its companion: the record that a fault of a record's kind stands in.
 pub struct FileRead {
     pub kind: u32,
     pub place: usize,
     pub records: usize,
+    pub companion: usize,
+}
+
+// The third number of a fault in the record of this number: kinds 13 to 18 and 30 to 34 name it, any
+// other has 0.
+fn companion_of(kind: u32, number: usize) -> usize
+    ensures { λ r. ⌜ r ≡ companionOf kind number ⌝ }
+{
+    if is_within(13, 18, kind) {
+        return number;
+    }
+    if is_within(30, 34, kind) {
+        return number;
+    }
+    0
 }
 
 // Behind the file's value, which ends at `at`, only spaces may stand.
@@ -42,12 +59,14 @@ fn end_of_file(s: &[u8], at: usize, records: usize) -> FileRead
             kind: 11,
             place,
             records: 0,
+            companion: 0,
         };
     }
     FileRead {
         kind: 0,
         place: 0,
         records,
+        companion: 0,
     }
 }
 
@@ -61,6 +80,7 @@ fn single_of(s: &[u8], reading: Reading) -> FileRead
             kind,
             place,
             records: 0,
+            companion: companion_of(kind, 1),
         },
     }
 }
@@ -142,6 +162,7 @@ fn read_elements(
                         kind: 11,
                         place,
                         records: 0,
+                        companion: 0,
                     };
                 }
             },
@@ -150,6 +171,7 @@ fn read_elements(
                     kind,
                     place,
                     records: 0,
+                    companion: companion_of(kind, r + 1),
                 };
             }
         }
@@ -176,6 +198,7 @@ fn read_array(
             kind: 11,
             place,
             records: 0,
+            companion: 0,
         },
     }
 }
@@ -225,12 +248,14 @@ fn fixed_file(s: &[u8], text: &[u8]) -> FileRead
             kind: 0,
             place: 0,
             records: 0,
+            companion: 0,
         };
     }
     FileRead {
         kind: 22,
         place: 0,
         records: 0,
+        companion: 0,
     }
 }
 
@@ -243,12 +268,14 @@ fn omitted_file(required: bool) -> FileRead
             kind: 21,
             place: 0,
             records: 0,
+            companion: 0,
         };
     }
     FileRead {
         kind: 0,
         place: 0,
         records: 0,
+        companion: 0,
     }
 }
 

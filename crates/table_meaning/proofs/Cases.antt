@@ -1,4 +1,4 @@
--- Worked cases: how many records are whole before a fault, in a table of one String that may not be null.
+-- Worked cases: which record a mark names, in a table of one String that may not be null.
 -- Assumes nothing.
 use Prim.Native.Nat.{ℕ}
 use Prim.Native.String.{String}
@@ -10,7 +10,6 @@ use Rattle.table_rows.specs.Rows.{Field}
 use Rattle.table_rows.specs.Types.{string}
 use Rattle.table_file.specs.Table.{tableOf}
 use Rattle.table_file.proofs.Opens.{open-files}
-use Rattle.table_meaning.specs.FaultRecord.{wholeFrom, recordsBefore}
 
 abbrev fields : List Field
 fields = record { name = codes "A"; type = string; nullable = false } ∷ []
@@ -20,15 +19,17 @@ abbrev cells : List ℕ
 cells = 0 ∷ 0 ∷ 0 ∷ 0 ∷ 0 ∷ 0 ∷ []
 
 abbrev answer : String → List ℕ
-answer file = tableOf false fields (codes file) cells .read .kind ∷ recordsBefore false fields (codes file) cells ∷ []
+answer file =
+    let read = tableOf false fields (codes file) cells .read in
+    read .kind ∷ read .companion ∷ []
 
-pub before : map answer (
+pub named : map answer (
     "[{\"B\"" ∷  -- 13 in the first record
     "[{\"A\":\"x\"},{\"A\":1}]" ∷  -- 15 in the second
     "[{\"A\":\"x\"}, {\"A\":\"y\"}, {\"A\":\"z\",\"A\"" ∷  -- 14 in the third
-    "[{\"A\":\"x\"},{}]" ∷  -- 19 in the second
+    "[{\"A\":\"x\"},{}]" ∷  -- 19 in the second names none
     []
     )
-    ≡ ((13 ∷ 0 ∷ []) ∷ (15 ∷ 1 ∷ []) ∷ (14 ∷ 2 ∷ []) ∷ (19 ∷ 1 ∷ []) ∷ [])
-unfolding open-files wholeFrom recordsBefore
-before = refl
+    ≡ ((13 ∷ 1 ∷ []) ∷ (15 ∷ 2 ∷ []) ∷ (14 ∷ 3 ∷ []) ∷ (19 ∷ 0 ∷ []) ∷ [])
+unfolding open-files
+named = refl

@@ -6,7 +6,7 @@ use mathlib.Core.Path.{_≡_, refl, sym, _∙_}
 use mathlib.Core.Bool.{Bool, true, false, not, _&&_, _||_, false≢true}
 use mathlib.Core.List.{List, flatMap}
 use native.Mathlib.Omega.{arith}
-use borrow.Author.Tests.{ltb-true, lt-leb, leb-true, eqb-true, not-true}
+use borrow.Author.Tests.{ltb-true, lt-leb, leb-true, eqb-true, ne-eqb, not-true}
 use lib.ListN.{length}
 use lib.Dec.{ltb, leb, eqb}
 use Rattle.json_bytes.specs.Reads.{byteAt, within, literalAt}
@@ -48,6 +48,7 @@ use Rattle.table_name.proofs.FaultKinds.{colonKinds, colon-kinds}
 use Rattle.table_record.specs.Record.{Filled, filled, isRead, cleared, typeOf, storedValue, afterColon, afterName, pairAt, isMissing, closedAt, pairsFrom, membersOf, hasRoom, recordAt}
 use Rattle.table_record.proofs.Bounds.{NextIn, colon-in, next-in, first-in, pair-in}
 use Rattle.table_record.proofs.FaultKinds.{recordKinds, record-kinds, no-room-99}
+use Rattle.table_file.specs.Table.{namesRecord}
 use Rattle.table_meaning.specs.FaultRecord.{ofRecord}
 use Rattle.table_meaning.proofs.Record.{fault-not-whole}
 
@@ -70,7 +71,7 @@ not-whole s at end =
     go (Fault kind place) = fault-not-whole kind place end
 
 pub other-elsewhere : (s : List ℕ) (at : ℕ) → Elsewhere (notObjectAt s at)
-unfolding ofRecord within
+unfolding ofRecord namesRecord within
 other-elsewhere s at = go (notObjectAt s at) (not-object-kinds s at) (not-whole s at)
   where
     go : (r : Reading) → Faults otherKinds r → ((end : ℕ) → r ≡ Whole end → ⊥) → Elsewhere r
@@ -78,8 +79,8 @@ other-elsewhere s at = go (notObjectAt s at) (not-object-kinds s at) (not-whole 
     go (Fault kind place) h out = elsewhere-kind kind (each (λ k. leb 10 k && not (ofRecord k)) otherKinds refl kind h)
 
 pub not-of-record : (kind : ℕ) → kind ≤ 12 → ofRecord kind ≡ false
-unfolding ofRecord within
-not-of-record kind l = rw (lt-leb 13 kind (omega arith), lt-leb 30 kind (omega arith))
+unfolding ofRecord namesRecord within
+not-of-record kind l = rw (lt-leb 13 kind (omega arith), lt-leb 30 kind (omega arith), ne-eqb kind 19 (λ e. omega arith))
 
 -- ---- the first wrong character of a string stands in it
 abbrev WrongBehind : ℕ → Wrong → Type 0
@@ -145,19 +146,19 @@ sooner s at end l m (Neither place) h = λ _. h m
 
 module _ (s : List ℕ) (at : ℕ) where
   text-found : Found at (textAt s at)
-  unfolding ofRecord within
+  unfolding ofRecord namesRecord within
   text-found = outside textKinds refl at (textAt s at) (text-kinds s at)
 
   number-found : Found at (numberAt s at .reading)
-  unfolding ofRecord within
+  unfolding ofRecord namesRecord within
   number-found = outside numberKinds refl at (numberAt s at .reading) (number-kinds s at)
 
   literal-found : Found at (literalAt s at)
-  unfolding ofRecord within
+  unfolding ofRecord namesRecord within
   literal-found = outside literalKinds refl at (literalAt s at) (literal-kinds s at)
 
   colon-found : Found at (colonAt s at)
-  unfolding ofRecord within
+  unfolding ofRecord namesRecord within
   colon-found = outside colonKinds refl at (colonAt s at) (colon-kinds s at)
 
 abbrev ValueFound : ℕ → ValueRead → Type 0
@@ -286,7 +287,7 @@ module _ (fields : List Field) (s : List ℕ) (base : ℕ) where
   members-found cells at (Neither place) h = eleven at place
 
   record-found : (cells : List ℕ) (at : ℕ) → Found at (recordAt fields s at cells base .outcome)
-  unfolding recordAt ofRecord within
+  unfolding recordAt ofRecord namesRecord within
   record-found cells at =
       by-test (FilledFound at) (hasRoom s cells base (length fields)) _ _
       (λ _. members-found (cleared cells base (2 * length fields)) at (firstIn s at 125) (first-in s at 125 (omega arith)))

@@ -65,3 +65,10 @@ module _ (s : List ℕ) (closing : ℕ) (some : 0 < closing) where
   row-order (x ∷ xs) next at rest proper near row (suc r) (suc q) l m =
       let h = first-part x next at (proper x (List·Memᴰ·head refl)) near (row .0) in
       row-order xs _ (x .to) rest (λ y i. proper y (List·Memᴰ·tail i)) (h .2) (row .1) r q (omega arith) (omega arith)
+
+  -- all end before what follows them begins
+  pub row-before : (xs : List Span) (next : Next) (at then : ℕ) → ((x : Span) → x ∈ xs → Proper s x) → NextIn s at next → Row s closing next xs (More then) → (r : ℕ) → r < length xs → recordIn xs r .to < then
+  unfolding recordIn
+  row-before xs next at then proper near row r l =
+      let h = row-behind xs next at (More then) proper near row in
+      omega (arith, h .near .0, h .each (recordIn xs r) (mem-at xs r _ l) .2)

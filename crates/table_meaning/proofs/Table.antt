@@ -22,11 +22,11 @@ use Rattle.table_name.specs.Name.{firstIn}
 use Rattle.table_name.specs.declared.Next.the-variants.{More, Ends}
 use Rattle.table_record.specs.Record.{filled, recordAt}
 use Rattle.table_record.proofs.Bounds.{first-in}
-use Rattle.table_file.specs.Table.{TableRead, endOfFile, singleRead, singleOf, singleAt, arrayAt, tableOf}
+use Rattle.table_file.specs.Table.{namesRecord, companionOf, TableRead, tableRead, endOfFile, singleRead, singleOf, singleAt, arrayAt, tableOf}
 use Rattle.table_file.specs.declared.FileRead.{FileRead}
-use Rattle.table_meaning.specs.Meaning.{span, Gives, recordIn, Means, widthOf}
-use Rattle.table_meaning.specs.FaultRecord.{ofRecord, recordsBefore, FaultIn}
-use Rattle.table_meaning.proofs.Rows.{row-order}
+use Rattle.table_meaning.specs.Meaning.{Span, span, Gives, recordIn, Means, widthOf}
+use Rattle.table_meaning.specs.FaultRecord.{ofRecord, FaultIn}
+use Rattle.table_meaning.proofs.Rows.{row-order, row-before}
 use Rattle.table_meaning.proofs.Objects.{object-proper}
 use Rattle.table_meaning.proofs.Record.{record-gives, record-narrow}
 use Rattle.table_meaning.proofs.Faults.{Elsewhere, record-kind, other-elsewhere, not-of-record}
@@ -54,9 +54,17 @@ end-kind s at n =
     by-test (λ (f : FileRead). ofRecord (f .kind) ≡ false) (ltb (spacesEnd s at) (length s)) _ _
     (λ _. not-of-record 11 (omega arith)) (λ _. not-of-record 0 (omega arith))
 
+-- a fault that only a record can have stands in a record, and the mark's third number is that record's if its kind names it
+abbrev Named : Bool → List Field → List ℕ → TableRead → Type 0
+Named single fields s f =
+    ofRecord (f .read .kind) ≡ true → (r : ℕ) × (f .read .companion ≡ companionOf (f .read .kind) r) × FaultIn single fields s (f .cells) r (f .read .kind) (f .read .place)
+
 module _ (fields : List Field) (s : List ℕ) where
   -- ---- an array
-  module _ (bracket : byteAt s (spacesEnd s 0) ≡ 91) (cells : List ℕ) (f : TableRead) (n : ℕ) (walk : Walk fields s cells 0 (firstIn s (spacesEnd s 0) 93) f n) where
+  module _ (bracket : byteAt s (spacesEnd s 0) ≡ 91) (cells : List ℕ) (f : TableRead) (walk : Walk fields s cells 0 (firstIn s (spacesEnd s 0) 93) f) where
+    abbrev n : ℕ
+    n = walk .n
+
     all : length (walk .records) ≡ n
     all = omega (arith, walk .count)
 
@@ -89,31 +97,32 @@ module _ (fields : List Field) (s : List ℕ) where
         go (Fails at kind place e l failed q) = not-zero kind (failed-kind fields s at n kind place failed) (sym (ap (λ (x : FileRead). x .kind) q) ∙ z)
         go (Breaks place q) = not-zero 11 (omega arith) (sym (ap (λ (x : FileRead). x .kind) q) ∙ z)
 
-    array-fault : ofRecord (f .read .kind) ≡ true → FaultIn false fields s (f .cells) n (f .read .kind) (f .read .place)
-    array-fault z = go (walk .stop)
+    array-fault : Named false fields s f
+    array-fault z = go n all (walk .stop)
       where
         kind-is : (x : FileRead) → f .read ≡ x → ofRecord (x .kind) ≡ true
         kind-is x q = rw q at z
 
-        of-inside : (at kind place : ℕ) → walk .rest ≡ More at → ofRecord kind ≡ true → Inside fields s at n kind place → FaultIn false fields s (f .cells) n kind place
-        of-inside at kind place e own inside = record {
+        of-inside : (m : ℕ) → length (walk .records) ≡ m → (at kind place : ℕ) → walk .rest ≡ More at → ofRecord kind ≡ true → Inside fields s at m kind place → FaultIn false fields s (f .cells) (m + 1) kind place
+        of-inside m is at kind place e own inside = record {
           records = walk .records;
-          count = all;
-          gives = each;
+          number = omega (arith, is);
+          gives = λ i l. each i (omega (arith, all));
           at = at;
           leads = (bracket, rw e at (walk .row));
+          before = row-before s 93 (omega arith) (walk .records) _ (spacesEnd s 0) at (walk .proper) (first-in s (spacesEnd s 0) 93 (omega arith)) (rw e at (walk .row));
           brace = inside .brace;
           then = inside .then;
-          reads = inside .reads;
+          reads = rw is (inside .reads);
           behind = inside .placed own;
           inside = inside .ends;
         }
 
-        go : Stop fields s (walk .rest) n (f .read) → FaultIn false fields s (f .cells) n (f .read .kind) (f .read .place)
-        go (Closes last e l q) = not-other _ (end-kind s (last + 1) n) (kind-is _ q)
-        go (Fails at kind place e l failed q) =
-            rw q (⊎-elim (of-inside at kind place e (kind-is _ q)) (λ h. not-other kind (h .1) (kind-is _ q)) failed)
-        go (Breaks place q) = not-other 11 (not-of-record 11 (omega arith)) (kind-is _ q)
+        go : (m : ℕ) → length (walk .records) ≡ m → Stop fields s (walk .rest) m (f .read) → (r : ℕ) × (f .read .companion ≡ companionOf (f .read .kind) r) × FaultIn false fields s (f .cells) r (f .read .kind) (f .read .place)
+        go m is (Closes last e l q) = not-other _ (end-kind s (last + 1) m) (kind-is _ q)
+        go m is (Fails at kind place e l failed q) =
+            (m + 1, rw q, rw q (⊎-elim (of-inside m is at kind place e (kind-is _ q)) (λ h. not-other kind (h .1) (kind-is _ q)) failed))
+        go m is (Breaks place q) = not-other 11 (not-of-record 11 (omega arith)) (kind-is _ q)
 
   -- ---- a singleton
   one-means : (then : List ℕ) (end : ℕ) → length fields ≤ 64 → spacesEnd s end ≡ length s → Gives fields s (span (spacesEnd s 0) end) then 0 → Means true fields s then 1
@@ -141,23 +150,27 @@ module _ (fields : List Field) (s : List ℕ) where
         rw (h .0) (one-means then end (g .0) (h .1) (g .1))
     single-means then (Fault kind place) some gives z = not-zero kind (some kind place refl) z
 
-    single-fault : (then : List ℕ) (r : Reading) → ((kind place : ℕ) → r ≡ Fault kind place → Inside fields s at 0 kind place) → ofRecord (singleRead s r .kind) ≡ true → FaultIn true fields s then 0 (singleRead s r .kind) (singleRead s r .place)
+    single-fault : (then : List ℕ) (r : Reading) → ((kind place : ℕ) → r ≡ Fault kind place → Inside fields s at 0 kind place) → Named true fields s (tableRead then (singleRead s r))
     unfolding singleRead
     single-fault then (Whole end) inside z = not-other _ (end-kind s end 1) z
     single-fault then (Fault kind place) inside z =
-        let h = inside kind place refl in
-        record {
-          records = [];
-          count = refl;
-          gives = λ r l. absurd (omega arith);
-          at = at;
-          leads = (refl, refl);
-          brace = h .brace;
-          then = h .then;
-          reads = h .reads;
-          behind = h .placed z;
-          inside = h .ends;
-        }
+        let h = inside kind place refl in (
+          1,
+          refl,
+          record {
+            records = [];
+            number = refl;
+            gives = λ i l. absurd (omega arith);
+            at = at;
+            leads = (refl, refl);
+            before = λ i l. absurd (omega arith);
+            brace = h .brace;
+            then = h .then;
+            reads = h .reads;
+            behind = h .placed z;
+            inside = h .ends;
+          },
+        )
 
     -- where no object stands
     other-kind : Elsewhere (Fault (singleOf s (filled cells (notObjectAt s at)) .read .kind) 0)
@@ -177,7 +190,7 @@ module _ (fields : List Field) (s : List ℕ) where
         (λ _. not-zero _ (other-kind .0))
     table-cells false =
         by-test (λ (f : TableRead). f .read .kind ≡ 0 → Means false fields s (f .cells) (f .read .records)) (eqb (byteAt s at) 91) _ _
-        (λ e. array-means (eqb-true _ 91 e) cells _ _ (array-walk fields s cells at (firstIn s at 93) (first-in s at 93 (omega arith))))
+        (λ e. array-means (eqb-true _ 91 e) cells _ (array-walk fields s cells at (firstIn s at 93) (first-in s at 93 (omega arith))))
         (λ _. not-zero _ (other-kind .0))
 
     -- a singleton that holds has one record, between spaces
@@ -188,13 +201,25 @@ module _ (fields : List Field) (s : List ℕ) where
         let one : tableOf true fields s cells .read .records ≡ 1 = sym (t .count) ∙ ap length (t .laid .one) in
         (one, (t .laid .to, t .laid .ends, rw (t .laid .one, zero-mul) at (t .gives 0 (omega arith))))
 
-    pub fault-record : (single : Bool) → ofRecord (tableOf single fields s cells .read .kind) ≡ true → FaultIn single fields s (tableOf single fields s cells .cells) (recordsBefore single fields s cells) (tableOf single fields s cells .read .kind) (tableOf single fields s cells .read .place)
-    unfolding tableOf singleAt arrayAt singleOf recordsBefore
+    -- a fault that only a record can have stands in one, which its mark names but for 19
+    pub fault-record : (single : Bool) → Named single fields s (tableOf single fields s cells)
+    unfolding tableOf singleAt arrayAt singleOf
     fault-record true =
-        by-test (λ (f : TableRead). ofRecord (f .read .kind) ≡ true → FaultIn true fields s (f .cells) 0 (f .read .kind) (f .read .place)) (eqb (byteAt s at) 123) _ _
+        by-test (Named true fields s) (eqb (byteAt s at) 123) _ _
         (λ e. single-fault _ (recordAt fields s at cells 0 .outcome) (λ kind place w. inside-is fields s at (spaces-within s 0 (omega arith) .1) (eqb-true _ 123 e) cells 0 kind place (rw zero-mul w)))
         (λ _. not-other _ (other-kind .1))
     fault-record false =
-        by-test (λ (f : TableRead). ofRecord (f .read .kind) ≡ true → FaultIn false fields s (f .cells) (recordsBefore false fields s cells) (f .read .kind) (f .read .place)) (eqb (byteAt s at) 91) _ _
-        (λ e. array-fault (eqb-true _ 91 e) cells _ _ (array-walk fields s cells at (firstIn s at 93) (first-in s at 93 (omega arith))))
+        by-test (Named false fields s) (eqb (byteAt s at) 91) _ _
+        (λ e. array-fault (eqb-true _ 91 e) cells _ (array-walk fields s cells at (firstIn s at 93) (first-in s at 93 (omega arith))))
         (λ _. not-other _ (other-kind .1))
+
+    -- the record that a mark names is the one in which its fault stands
+    pub companion-record : (single : Bool) → namesRecord (tableOf single fields s cells .read .kind) ≡ true → FaultIn single fields s (tableOf single fields s cells .cells) (tableOf single fields s cells .read .companion) (tableOf single fields s cells .read .kind) (tableOf single fields s cells .read .place)
+    unfolding ofRecord companionOf
+    companion-record single e =
+        let h = fault-record single (rw e) in
+        rw (h .1, e) (h .2)
+
+    -- in a singleton it is 1
+    pub companion-single : namesRecord (tableOf true fields s cells .read .kind) ≡ true → tableOf true fields s cells .read .companion ≡ 1
+    companion-single e = let h = companion-record true e in h .number ∙ ap (λ (l : List Span). length l + 1) (h .leads .0)

@@ -23,11 +23,11 @@ use Rattle.table_name.specs.declared.Next.{Next}
 use Rattle.table_name.specs.declared.Next.the-variants.{More, Ends, Neither}
 use Rattle.table_record.specs.Record.{Filled, filled, startCell, endCell, recordAt}
 use Rattle.table_record.proofs.Bounds.{NextIn, next-in, record-in}
-use Rattle.table_file.specs.Table.{fault, TableRead, tableRead, endOfFile, elementAt, elementsFrom, elementsOf}
+use Rattle.table_file.specs.Table.{namesRecord, fault, TableRead, tableRead, endOfFile, elementAt, elementsFrom, elementsOf}
 use Rattle.table_file.specs.declared.FileRead.{FileRead}
 use Rattle.table_file.proofs.Laws.{element-in}
 use Rattle.table_meaning.specs.Meaning.{_∈_, Span, span, Row, Gives, recordIn, widthOf}
-use Rattle.table_meaning.specs.FaultRecord.{ofRecord, wholeFrom}
+use Rattle.table_meaning.specs.FaultRecord.{ofRecord}
 use Rattle.table_meaning.proofs.Rows.{Proper}
 use Rattle.table_meaning.proofs.Objects.{object-proper}
 use Rattle.table_meaning.proofs.Record.{fault-not-whole, record-gives, record-narrow}
@@ -90,7 +90,7 @@ module _ (fields : List Field) (s : List ℕ) where
   }
 
   element-is : (at : ℕ) → at ≤ length s → (cells : List ℕ) (r : ℕ) → Element at cells r (elementAt fields s at cells r)
-  unfolding elementAt ofRecord within
+  unfolding elementAt ofRecord namesRecord within
   element-is at l cells r =
       by-test (Element at cells r) (eqb (byteAt s at) 123) _ _
       (λ e. let brace = eqb-true (byteAt s at) 123 e in
@@ -108,11 +108,12 @@ module _ (fields : List Field) (s : List ℕ) where
   -- how the walk ends, behind n records: the array closes, or there is a fault
   pub data Stop (rest : Next) (n : ℕ) (read : FileRead) : Type 0 where
     Closes : (last : ℕ) → rest ≡ Ends last → last < length s → read ≡ endOfFile s (last + 1) n → Stop rest n read
-    Fails : (at kind place : ℕ) → rest ≡ More at → at ≤ length s → Failed at n kind place → read ≡ fault kind place → Stop rest n read
-    Breaks : (place : ℕ) → read ≡ fault 11 place → Stop rest n read
+    Fails : (at kind place : ℕ) → rest ≡ More at → at ≤ length s → Failed at n kind place → read ≡ fault kind place (n + 1) → Stop rest n read
+    Breaks : (place : ℕ) → read ≡ fault 11 place 0 → Stop rest n read
 
-  pub record Walk (cells : List ℕ) (r : ℕ) (next : Next) (f : TableRead) (n : ℕ) : Type 0 where
+  pub record Walk (cells : List ℕ) (r : ℕ) (next : Next) (f : TableRead) : Type 0 where
     pub records : List Span
+    pub n : ℕ
     pub count : n ≡ r + length records
     pub rest : Next
     pub row : Row s 93 next records rest
@@ -123,9 +124,10 @@ module _ (fields : List Field) (s : List ℕ) where
     pub stop : Stop rest n (f .read)
 
   -- no record more
-  stopped : (cells then : List ℕ) (r : ℕ) (next : Next) (read : FileRead) → ((i : ℕ) → i < r * widthOf fields → getD then i 0 ≡ getD cells i 0) → Stop next r read → Walk cells r next (tableRead then read) r
+  stopped : (cells then : List ℕ) (r : ℕ) (next : Next) (read : FileRead) → ((i : ℕ) → i < r * widthOf fields → getD then i 0 ≡ getD cells i 0) → Stop next r read → Walk cells r next (tableRead then read)
   stopped cells then r next read kept stop = record {
     records = [];
+    n = r;
     count = omega arith;
     rest = next;
     row = refl;
@@ -140,16 +142,17 @@ module _ (fields : List Field) (s : List ℕ) where
   next-base r = rw add-one (suc-mul r (widthOf fields))
 
   -- one record more, before the rest
-  module _ (at : ℕ) (cells : List ℕ) (r : ℕ) (f : Filled) (element : Element at cells r f) (e : ℕ) (whole : f .outcome ≡ Whole e) (g : TableRead) (n : ℕ) (more : Walk (f .cells) (r + 1) (nextAfter s e 93) g n) where
+  module _ (at : ℕ) (cells : List ℕ) (r : ℕ) (f : Filled) (element : Element at cells r f) (e : ℕ) (whole : f .outcome ≡ Whole e) (g : TableRead) (more : Walk (f .cells) (r + 1) (nextAfter s e 93) g) where
     first-gives : Gives fields s (span at e) (g .cells) (r * widthOf fields)
     first-gives =
         gives-kept fields s (span at e) (f .cells) (g .cells) (r * widthOf fields)
         (λ i l m. more .kept i (omega (arith, next-base r))) (element .gives e whole)
 
-    one-more : Walk cells r (More at) g n
+    one-more : Walk cells r (More at) g
     unfolding recordIn
     one-more = record {
       records = span at e ∷ more .records;
+      n = more .n;
       count = omega (arith, more .count);
       rest = more .rest;
       row = (refl, more .row);
@@ -169,43 +172,35 @@ module _ (fields : List Field) (s : List ℕ) where
         small (suc i) l = rw (add-suc, ← suc-add, ← add-one r) (more .small i (omega arith))
 
   -- what stands behind an element: the next, with those behind it, or the end
-  next-walk : (n : ℕ) (cells : List ℕ) (r : ℕ) → ((next : ℕ) → next ≤ length s → Walk cells r (More next) (elementsFrom n fields s next cells r) (wholeFrom n fields s next cells r)) → (end : ℕ) (x : Next) → NextIn s end x → Walk cells r x (elim x [ More next ↦ elementsFrom n fields s next cells r | Ends last ↦ tableRead cells (endOfFile s (last + 1) r) | Neither place ↦ tableRead cells (fault 11 place) ]) (elim x [ More next ↦ wholeFrom n fields s next cells r | Ends last ↦ r | Neither place ↦ r ])
+  next-walk : (n : ℕ) (cells : List ℕ) (r : ℕ) → ((next : ℕ) → next ≤ length s → Walk cells r (More next) (elementsFrom n fields s next cells r)) → (end : ℕ) (x : Next) → NextIn s end x → Walk cells r x (elim x [ More next ↦ elementsFrom n fields s next cells r | Ends last ↦ tableRead cells (endOfFile s (last + 1) r) | Neither place ↦ tableRead cells (fault 11 place 0) ])
   next-walk n cells r more end (More next) h = more next (h .1)
   next-walk n cells r more end (Ends last) h = stopped cells cells r (Ends last) _ (λ i l. refl) (Closes last refl (h .1) refl)
   next-walk n cells r more end (Neither place) h = stopped cells cells r (Neither place) _ (λ i l. refl) (Breaks place refl)
 
-  turn-walk : (n at : ℕ) → at ≤ length s → (cells then : List ℕ) (r : ℕ) → ((next : ℕ) → next ≤ length s → Walk then (r + 1) (More next) (elementsFrom n fields s next then (r + 1)) (wholeFrom n fields s next then (r + 1))) → (o : Reading) → Within s at o → Element at cells r (filled then o) → Walk cells r (More at) (elim o [
+  turn-walk : (n at : ℕ) → at ≤ length s → (cells then : List ℕ) (r : ℕ) → ((next : ℕ) → next ≤ length s → Walk then (r + 1) (More next) (elementsFrom n fields s next then (r + 1))) → (o : Reading) → Within s at o → Element at cells r (filled then o) → Walk cells r (More at) (elim o [
     | Whole end ↦
         elim (nextAfter s end 93) [
           | More next ↦ elementsFrom n fields s next then (r + 1)
           | Ends last ↦ tableRead then (endOfFile s (last + 1) (r + 1))
-          | Neither place ↦ tableRead then (fault 11 place)
+          | Neither place ↦ tableRead then (fault 11 place 0)
         ]
-    | Fault kind place ↦ tableRead then (fault kind place)
-  ]) (elim o [
-    | Whole end ↦
-        elim (nextAfter s end 93) [
-          | More next ↦ wholeFrom n fields s next then (r + 1)
-          | Ends last ↦ r + 1
-          | Neither place ↦ r + 1
-        ]
-    | Fault kind place ↦ r
+    | Fault kind place ↦ tableRead then (fault kind place (r + 1))
   ])
   turn-walk n at l cells then r more (Whole e) h element =
-      one-more at cells r (filled then (Whole e)) element e refl _ _
+      one-more at cells r (filled then (Whole e)) element e refl _
       (next-walk n then (r + 1) more e (nextAfter s e 93) (next-in s e (h .1) 93 (omega arith)))
   turn-walk n at l cells then r more (Fault kind place) h element =
       stopped cells then r (More at) _ (element .kept) (Fails at kind place refl l (element .fails kind place refl) refl)
 
-  elements-walk : (n at : ℕ) → at ≤ length s → (cells : List ℕ) (r : ℕ) → Walk cells r (More at) (elementsFrom n fields s at cells r) (wholeFrom n fields s at cells r)
-  unfolding elementsFrom wholeFrom
+  elements-walk : (n at : ℕ) → at ≤ length s → (cells : List ℕ) (r : ℕ) → Walk cells r (More at) (elementsFrom n fields s at cells r)
+  unfolding elementsFrom
   elements-walk zero at l cells r = stopped cells cells r (More at) _ (λ i l. refl) (Breaks at refl)
   elements-walk (suc n) at l cells r =
       let element = elementAt fields s at cells r in
       turn-walk n at l cells (element .cells) r (λ next m. elements-walk n next m (element .cells) (r + 1))
       (element .outcome) (element-in fields s at cells r l) (element-is at l cells r)
 
-  pub array-walk : (cells : List ℕ) (at : ℕ) (x : Next) → NextIn s at x → Walk cells 0 x (elementsOf fields s cells x) (elim x [ More next ↦ wholeFrom (length s) fields s next cells 0 | Ends last ↦ 0 | Neither place ↦ 0 ])
+  pub array-walk : (cells : List ℕ) (at : ℕ) (x : Next) → NextIn s at x → Walk cells 0 x (elementsOf fields s cells x)
   unfolding elementsOf
   array-walk cells at (More next) h = elements-walk (length s) next (h .1) cells 0
   array-walk cells at (Ends last) h = stopped cells cells 0 (Ends last) _ (λ i l. refl) (Closes last refl (h .1) refl)

@@ -1,8 +1,8 @@
 // Answers cases of the table layer, so that a test can ask the compiled code thousands of them in
 // one run. A case on standard input is three little-endian u32 (file number, 1 if the file is
-// present, length) and the file's bytes; its answer on standard output is four little-endian u64
-// (kind, place, records, n) and the n cells of the records, each a little-endian u32. The program
-// ends where the input does, and at a case that is too long or of no file.
+// present, length) and the file's bytes; its answer on standard output is five little-endian u64
+// (kind, place, companion, records, n) and the n cells of the records, each a little-endian u32. The
+// program ends where the input does, and at a case that is too long or of no file.
 ghost use Prim.Native.Nat.{_+_, _*_, _≤_};
 ghost use lib.ListN.{length};
 use bundle_bytes::put_word;
@@ -26,6 +26,7 @@ use table_rows::rows_after;
 struct Answer {
     kind: u64,
     place: u64,
+    companion: u64,
     records: usize,
     count: usize,
 }
@@ -92,6 +93,7 @@ fn answer_of(
     Answer {
         kind: read.kind as u64,
         place: read.place as u64,
+        companion: read.companion as u64,
         records: read.records,
         count,
     }
@@ -155,18 +157,19 @@ fn cell_count(records: usize, count: usize, most: usize) -> usize
     n
 }
 
-// Writes an answer, of at most 753,696 bytes, and gives the place behind it.
+// Writes an answer, of at most 753,704 bytes, and gives the place behind it.
 fn put_answer(out: &mut [u8], at: usize, answer: Answer, cells: &[u32]) -> usize
-    requires { ⌜ at + 753696 ≤ length (now out) ⌝ }
-    ensures { λ r. ⌜ (at + 32 ≤ r) × (r ≤ length (now (out .entry))) ⌝ }
+    requires { ⌜ at + 753704 ≤ length (now out) ⌝ }
+    ensures { λ r. ⌜ (at + 40 ≤ r) × (r ≤ length (now (out .entry))) ⌝ }
 {
     let n = cell_count(answer.records, answer.count, cells.len());
     put_long(out, at, answer.kind);
     put_long(out, at + 8, answer.place);
-    put_long(out, at + 16, answer.records as u64);
-    put_long(out, at + 24, n as u64);
-    put_cells(out, at + 32, cells, n);
-    at + 32 + 4 * n
+    put_long(out, at + 16, answer.companion);
+    put_long(out, at + 24, answer.records as u64);
+    put_long(out, at + 32, n as u64);
+    put_cells(out, at + 40, cells, n);
+    at + 40 + 4 * n
 }
 
 // Answers as many cases as the output surely has room for and writes the answers; whether to go on.
@@ -178,7 +181,7 @@ fn answer_some(
     out: &mut [u8],
 ) -> bool {
     let mut used = 0;
-    while used + 753696 <= out.len() {
+    while used + 753704 <= out.len() {
         match next_answer(rows, names, buf, cells) {
             Next::Answered(answer) => {
                 used = put_answer(out, used, answer, cells);

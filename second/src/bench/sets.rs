@@ -160,7 +160,7 @@ mod tests {
     fn linked_sets_lack_schedule_data_only() {
         for tasks in TASKS {
             let set = linked_set(tasks);
-            assert_eq!(set.faults(), [(73, 1, 1)]);
+            assert_eq!(set.faults(), [(73, (1, 1, 0))]);
             assert!(set.bundle().len() <= LARGEST_BUNDLE);
             assert_eq!([9, 14, 15].map(|file| records(&set, file)), [tasks, tasks - 1, tasks]);
         }
@@ -170,7 +170,7 @@ mod tests {
     fn sets_with_long_ids_lack_schedule_data_only() {
         for (tasks, length) in LONG_IDS {
             let set = long_id_set(tasks, length);
-            assert_eq!(set.faults(), [(73, 1, 1)]);
+            assert_eq!(set.faults(), [(73, (1, 1, 0))]);
             assert!(set.bundle().len() <= LARGEST_BUNDLE);
             assert_eq!([9, 14, 15].map(|file| records(&set, file)), [tasks, tasks / 2, tasks]);
         }

@@ -5,7 +5,7 @@ use std::io::{self, Read, Write};
 
 use super::answer::answer;
 use super::run::{hex, Question};
-use super::wire::{read_first_word, read_four, read_slice, read_word, write_four, write_words};
+use super::wire::{read_first_word, read_longs, read_slice, read_word, write_longs, write_words};
 
 pub use super::wire::LONGEST;
 
@@ -69,11 +69,11 @@ impl Question for Case {
     }
 
     fn write_answer(answer: &Answer, out: &mut impl Write) -> io::Result<()> {
-        write_four(out, answer)
+        write_longs(out, answer)
     }
 
     fn read_answer(&self, input: &mut impl Read) -> Option<Answer> {
-        read_four(input)
+        read_longs(input)
     }
 
     fn describe(&self, expected: &Answer, answered: &Answer) -> String {

@@ -12,6 +12,8 @@ pub mod cases;
 pub mod command;
 #[cfg(not(serve_only))]
 mod draft;
+#[cfg(not(serve_only))]
+mod faulty;
 pub mod gate;
 #[cfg(not(serve_only))]
 mod ids;

@@ -309,9 +309,10 @@ mod tests {
         let cases = [TableCase { number: 5, contents: Some(contents) }];
         let one = Run { seed: 5, cases: &cases, only: Some(0) };
         let right = cases[0].answer();
-        let spoil: [fn(&mut TableAnswer); 6] = [
+        let spoil: [fn(&mut TableAnswer); 7] = [
             |answer| answer.kind = 11,
             |answer| answer.place = 1,
+            |answer| answer.companion = 1,
             |answer| answer.records = 2,
             |answer| answer.count = 5,
             |answer| answer.cells[0] += 1,

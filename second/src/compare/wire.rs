@@ -60,25 +60,26 @@ pub fn unsound(why: &'static str) -> io::Error {
     io::Error::new(ErrorKind::InvalidData, why)
 }
 
-/// The four numbers that each answer has or begins with.
+/// The four numbers of an answer of the JSON layer.
 pub type Four = [u64; 4];
 
-pub fn write_four(out: &mut impl Write, four: &Four) -> io::Result<()> {
-    for number in four {
+/// Numbers of 64 bits, which answers have or begin with.
+pub fn write_longs(out: &mut impl Write, longs: &[u64]) -> io::Result<()> {
+    for number in longs {
         out.write_all(&number.to_le_bytes())?;
     }
     Ok(())
 }
 
-/// The next four numbers, or nothing if they aren't all there.
-pub fn read_four(input: &mut impl Read) -> Option<Four> {
-    let mut bytes = [0; 32];
-    input.read_exact(&mut bytes).ok()?;
-    let mut four = [0; 4];
-    for (number, chunk) in four.iter_mut().zip(bytes.chunks_exact(8)) {
-        *number = u64::from_le_bytes(chunk.try_into().expect("chunks of 8 bytes"));
+/// The next numbers, or nothing if they aren't all there.
+pub fn read_longs<const COUNT: usize>(input: &mut impl Read) -> Option<[u64; COUNT]> {
+    let mut longs = [0; COUNT];
+    for number in &mut longs {
+        let mut bytes = [0; 8];
+        input.read_exact(&mut bytes).ok()?;
+        *number = u64::from_le_bytes(bytes);
     }
-    Some(four)
+    Some(longs)
 }
 
 #[cfg(test)]
@@ -86,12 +87,13 @@ mod tests {
     use super::*;
 
     #[test]
-    fn four_numbers_come_back_from_their_bytes() {
+    fn numbers_come_back_from_their_bytes() {
         let mut bytes = Vec::new();
-        write_four(&mut bytes, &[1, 2, u64::MAX, 4]).unwrap();
+        write_longs(&mut bytes, &[1, 2, u64::MAX, 4]).unwrap();
         assert_eq!(bytes.len(), 32);
-        assert_eq!(read_four(&mut &bytes[..]), Some([1, 2, u64::MAX, 4]));
-        assert_eq!(read_four(&mut &bytes[..31]), None);
+        assert_eq!(read_longs(&mut &bytes[..]), Some([1, 2, u64::MAX, 4]));
+        assert_eq!(read_longs::<4>(&mut &bytes[..31]), None);
+        assert_eq!(read_longs::<5>(&mut &bytes[..]), None);
     }
 
     #[test]

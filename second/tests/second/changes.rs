@@ -1,7 +1,7 @@
 //! The bundle's layout, the refusals and the changes.
 
 use crate::sample::{accepted, Set};
-use second::board::{Board, Mark};
+use second::board::{Board, Mark, HOLDS};
 use second::bundle::{file_part, file_state, files, FileState, LARGEST_BUNDLE};
 use second::gate::{judge, make_change, touched_marks, try_change, Verdict};
 
@@ -11,7 +11,8 @@ const FILLER: u8 = 0xA5;
 fn wrong_board() -> Board {
     let mut board = Board::fresh();
     for (number, mark) in board.marks.iter_mut().enumerate() {
-        *mark = Mark { kind: 77, place: 1000 + number as u32 };
+        let number = number as u32;
+        *mark = Mark { kind: 77, place: 1000 + number, companion: u32::MAX - number };
     }
     board
 }
@@ -55,7 +56,7 @@ fn empty_files_are_present() {
     let bundle = set.bundle();
     assert_eq!(bundle.len(), 166);
     assert_eq!(file_state(&bundle, 5), FileState::Present);
-    assert_eq!(set.mark(5), (11, 0));
+    assert_eq!(set.mark(5), (11, 0, 0));
     // An offset of 0 with a length, or a length of 0 with another offset.
     assert_eq!(judge(&with_word(&bundle, 4, 1)).refusal, 3);
     assert_eq!(judge(&with_word(&bundle, 8, 1)).refusal, 3);
@@ -120,7 +121,7 @@ fn withdrawing_an_omitted_file_changes_no_file() {
     let (verdict, output) = make(&set.bundle(), &wrong_board(), 8, None);
     assert_eq!(verdict.refusal, 0);
     assert_eq!(output[..set.bundle().len()], set.bundle());
-    assert_eq!(verdict.board.marks[8], Mark { kind: 0, place: 0 });
+    assert_eq!(verdict.board.marks[8], HOLDS);
     assert_eq!(verdict.board.marks[9], wrong_board().marks[9]);
 }
 
@@ -157,7 +158,8 @@ fn the_new_bundle_may_just_fit() {
     let spaces = vec![b' '; room + 1];
     let (verdict, output) = make(&bundle, &wrong_board(), 4, Some(&spaces[..room]));
     assert_eq!(verdict.refusal, 0);
-    assert_eq!(verdict.board.marks[4], Mark { kind: 11, place: room as u32 });
+    let early_end = Mark { kind: 11, place: room as u32, companion: 0 };
+    assert_eq!(verdict.board.marks[4], early_end);
     assert_eq!(judge(&output[..LARGEST_BUNDLE]).refusal, 0);
     let (verdict, output) = make(&bundle, &wrong_board(), 4, Some(&spaces));
     refused(&verdict, 6, &output);

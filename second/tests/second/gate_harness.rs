@@ -3,7 +3,7 @@
 use std::process::{Command, Output};
 use std::sync::OnceLock;
 
-use second::board::Board;
+use second::board::{Board, Mark};
 use second::compare::gate::answer::Answer;
 use second::compare::gate::case::{Call, Change, GateCase, LONGEST};
 use second::compare::gate::cases::all_cases;
@@ -11,7 +11,7 @@ use second::compare::run::Question;
 use second::gate::{judge, make_change};
 
 /// Of cases and answers together.
-const MOST_BYTES: usize = 290_000_000;
+const MOST_BYTES: usize = 340_000_000;
 const LARGE: usize = 500_000;
 const MOST_LARGE: usize = 60;
 
@@ -21,6 +21,15 @@ const SEED: u64 = 9;
 fn cases() -> &'static [GateCase] {
     static CASES: OnceLock<Vec<GateCase>> = OnceLock::new();
     CASES.get_or_init(|| all_cases(SEED))
+}
+
+/// The small ones with their right answers, made once as well.
+fn small_cases() -> &'static [(&'static GateCase, Answer)] {
+    static SMALL: OnceLock<Vec<(&'static GateCase, Answer)>> = OnceLock::new();
+    SMALL.get_or_init(|| {
+        let small = cases().iter().filter(|case| case.sent_length() < 20_000);
+        small.map(|case| (case, case.answer())).collect()
+    })
 }
 
 fn compare(arguments: &[&str]) -> Output {
@@ -38,8 +47,8 @@ fn last_line(output: &Output) -> String {
 
 fn answered_length(case: &GateCase) -> usize {
     match case.call {
-        Call::Judge | Call::Try(_) => 652,
-        Call::Make(_, output) => 656 + output.length as usize,
+        Call::Judge | Call::Try(_) => 976,
+        Call::Make(_, output) => 980 + output.length as usize,
         Call::LookUp(_) => match case.answer() {
             Answer::Found(part) => 12 + part.bytes.len(),
             _ => unreachable!("a lookup finds a part"),
@@ -225,16 +234,75 @@ fn written_nothing(case: &GateCase, right: &Answer) -> Answer {
     }
 }
 
+/// The right answer with other companions.
+fn with_companions(right: &Answer, companion_of: impl Fn(usize, Mark) -> u32) -> Answer {
+    let mut changed = right.clone();
+    if let Answer::Judged { board, .. } | Answer::Made { board, .. } = &mut changed {
+        for (number, mark) in board.marks.iter_mut().enumerate() {
+            mark.companion = companion_of(number, *mark);
+        }
+    }
+    changed
+}
+
+/// The companions of the touched marks stay as they were handed in.
+fn kept_companions(case: &GateCase, right: &Answer) -> Answer {
+    match case.change() {
+        None => right.clone(),
+        Some(change) => with_companions(right, |number, _| change.board.marks[number].companion),
+    }
+}
+
+/// How many judgements a program answers wrongly that gets companions so.
+fn caught_judging(
+    cases: &[(&GateCase, Answer)],
+    companion_of: impl Fn(usize, Mark) -> u32,
+) -> usize {
+    caught(cases, |case, right| match case.call {
+        Call::Judge => with_companions(right, &companion_of),
+        _ => right.clone(),
+    })
+}
+
+#[test]
+fn lazy_companions_are_caught() {
+    let cases = small_cases();
+    assert!(caught(cases, |_, right| with_companions(right, |_, _| 0)) > 10_000);
+    assert!(caught(cases, kept_companions) > 3_000);
+    // Counted from 0, and cut to a byte.
+    assert!(caught_judging(cases, |_, mark| mark.companion.saturating_sub(1)) > 3_000);
+    assert!(caught_judging(cases, |_, mark| mark.companion % 256) > 0);
+    // The record of a fault that names none; 20 is only met in large files.
+    for kind in [10, 11, 12, 19, 21, 22] {
+        let named = |_, mark: Mark| if mark.kind == kind { 1 } else { mark.companion };
+        assert!(caught_judging(cases, named) > 10, "kind {kind}");
+    }
+}
+
+/// The row above in place of the copied row or the parent. Where a parent is no
+/// SUMMARY, its first child stands right below it, but for Levels under 1.
+#[test]
+fn the_row_above_is_no_companion() {
+    let cases = small_cases();
+    for (number, least) in (20..=35).map(|key| (key, 50)).chain([(79, 1_000), (80, 10)]) {
+        let above = |at: usize, mark: Mark| match (at == number, mark.kind) {
+            (true, 1) => mark.place - 1,
+            _ => mark.companion,
+        };
+        let wrong = caught_judging(cases, above);
+        assert!(wrong > least, "mark {number}: {wrong}");
+    }
+}
+
 #[test]
 fn lazy_builds_are_caught() {
-    let small = cases().iter().filter(|case| case.sent_length() < 20_000);
-    let cases: Vec<(&GateCase, Answer)> = small.map(|case| (case, case.answer())).collect();
-    assert_eq!(caught(&cases, |_, right| right.clone()), 0);
-    assert!(caught(&cases, refused_always) > 10_000);
-    assert!(caught(&cases, written_nothing) > 1_000);
-    assert!(caught(&cases, judged_again) > 1_000);
+    let cases = small_cases();
+    assert_eq!(caught(cases, |_, right| right.clone()), 0);
+    assert!(caught(cases, refused_always) > 10_000);
+    assert!(caught(cases, written_nothing) > 1_000);
+    assert!(caught(cases, judged_again) > 1_000);
     let one_board = judge(&second::compare::gate::sample::accepted().bundle()).board;
-    assert!(caught(&cases, |_, right| with_board(right, one_board)) > 10_000);
+    assert!(caught(cases, |_, right| with_board(right, one_board)) > 10_000);
     let mut changes = 0;
     let only_the_first = |case: &GateCase, right: &Answer| match case.change() {
         Some(change) if changes > 0 => with_board(right, change.board),
@@ -244,5 +312,5 @@ fn lazy_builds_are_caught() {
         }
         None => right.clone(),
     };
-    assert!(caught(&cases, only_the_first) > 1_000);
+    assert!(caught(cases, only_the_first) > 1_000);
 }

@@ -1,6 +1,7 @@
 //! The second program against hand-made cases of the requirements.
 
 mod changes;
+mod companions;
 mod files;
 mod gate_harness;
 mod harness;

@@ -2,17 +2,23 @@
 
 use crate::sample::{accepted, array, schedule, Set, BASELINE};
 
-/// The accepted set with one file changed has that mark broken at that record.
+/// The accepted set with one file changed has that mark broken at that record,
+/// and no other record is named with it.
 fn breaks(mark: usize, place: u32, file: usize, contents: &str) {
+    breaks_with(mark, (place, 0), file, contents);
+}
+
+/// The same with the record named beside it.
+fn breaks_with(mark: usize, (place, companion): (u32, u32), file: usize, contents: &str) {
     let set = accepted().with(file, contents);
-    assert_eq!(set.mark(file), (0, 0), "file {file}: {contents}");
-    assert_eq!(set.mark(mark), (1, place), "mark {mark}: {contents}");
+    assert_eq!(set.mark(file), (0, 0, 0), "file {file}: {contents}");
+    assert_eq!(set.mark(mark), (1, place, companion), "mark {mark}: {contents}");
 }
 
 fn holds(mark: usize, file: usize, contents: &str) {
     let set = accepted().with(file, contents);
-    assert_eq!(set.mark(file), (0, 0), "file {file}: {contents}");
-    assert_eq!(set.mark(mark), (0, 0), "mark {mark}: {contents}");
+    assert_eq!(set.mark(file), (0, 0, 0), "file {file}: {contents}");
+    assert_eq!(set.mark(mark), (0, 0, 0), "mark {mark}: {contents}");
 }
 
 /// The records of a file of the accepted set, the first one once more at the
@@ -29,16 +35,17 @@ fn with_first_again(file: usize) -> (String, u32) {
 fn keys_are_broken_at_the_later_record() {
     for file in 4..=19 {
         let (contents, place) = with_first_again(file);
-        breaks(file + 16, place, file, &contents);
-        breaks(file + 16, place, file, &contents.replace("T1", "t1").replace("C1", "c1"));
+        breaks_with(file + 16, (place, 1), file, &contents);
+        let folded = contents.replace("T1", "t1").replace("C1", "c1");
+        breaks_with(file + 16, (place, 1), file, &folded);
     }
 }
 
 #[test]
 fn every_part_of_a_key_counts() {
-    breaks(
+    breaks_with(
         24,
-        2,
+        (2, 1),
         8,
         r#"[{"CalendarID":"C","ExceptionDate":"2020-01-01"},{"CalendarID":"c","ExceptionDate":"2020-\u00301-01"}]"#,
     );
@@ -57,9 +64,9 @@ fn every_part_of_a_key_counts() {
         18,
         r#"[{"ResourceID":"AB","CustomFieldID":"C","Value":"1"},{"ResourceID":"A","CustomFieldID":"BC","Value":"1"}]"#,
     );
-    breaks(
+    breaks_with(
         30,
-        3,
+        (3, 1),
         14,
         r#"[{"PredecessorTaskID":"A","SuccessorTaskID":"B","RelationshipTypeID":"X"},
         {"PredecessorTaskID":"A","SuccessorTaskID":"B","RelationshipTypeID":"Y"},
@@ -179,10 +186,10 @@ fn targets() {
 fn targets_in_an_omitted_file_are_missing() {
     let set = accepted().without(6);
     for mark in [49, 50, 52, 58] {
-        let expected = if mark == 58 { (1, 2) } else { (1, 1) };
+        let expected = if mark == 58 { (1, 2, 0) } else { (1, 1, 0) };
         assert_eq!(set.mark(mark), expected);
     }
-    assert_eq!(set.mark(67), (0, 0));
+    assert_eq!(set.mark(67), (0, 0, 0));
 }
 
 #[test]
@@ -245,8 +252,8 @@ fn padded_numbers_are_taken_by_value() {
     let ordinals = |second: &str| {
         format!(r#"[{{"CalendarID":"C1","Ordinal":7}},{{"CalendarID":"C1","Ordinal":{second}}}]"#)
     };
-    breaks(23, 2, 7, &ordinals("7.0000000000000000"));
-    breaks(23, 2, 7, &ordinals("70000000000000000e-16"));
+    breaks_with(23, (2, 1), 7, &ordinals("7.0000000000000000"));
+    breaks_with(23, (2, 1), 7, &ordinals("70000000000000000e-16"));
     holds(23, 7, &ordinals("70000000000000000e-15"));
     holds(78, 15, r#"[{"Level":1.0000000000000000,"TaskID":"S1"},{"Level":200e-2,"TaskID":"S2"}]"#);
 }
@@ -325,24 +332,24 @@ fn outline(rows: &[(i64, &str)]) -> Set {
 
 #[test]
 fn level_runs() {
-    assert_eq!(outline(&[]).mark(78), (0, 0));
-    assert_eq!(outline(&[(2, "")]).mark(78), (1, 1));
-    assert_eq!(outline(&[(0, "")]).mark(78), (1, 1));
-    assert_eq!(outline(&[(1, ""), (0, "")]).mark(78), (1, 2));
-    assert_eq!(outline(&[(1, ""), (2, ""), (3, ""), (1, ""), (3, "")]).mark(78), (1, 5));
-    assert_eq!(outline(&[(1, ""), (2, ""), (-999_999_999_999_999, "")]).mark(78), (1, 3));
+    assert_eq!(outline(&[]).mark(78), (0, 0, 0));
+    assert_eq!(outline(&[(2, "")]).mark(78), (1, 1, 0));
+    assert_eq!(outline(&[(0, "")]).mark(78), (1, 1, 0));
+    assert_eq!(outline(&[(1, ""), (0, "")]).mark(78), (1, 2, 0));
+    assert_eq!(outline(&[(1, ""), (2, ""), (3, ""), (1, ""), (3, "")]).mark(78), (1, 5, 0));
+    assert_eq!(outline(&[(1, ""), (2, ""), (-999_999_999_999_999, "")]).mark(78), (1, 3, 0));
 }
 
 #[test]
 fn parents_across_a_broken_run() {
     // Level 0 has a parent only among lower levels.
-    assert_eq!(outline(&[(1, ""), (0, "")]).mark(79), (1, 2));
-    assert_eq!(outline(&[(-1, ""), (0, "1")]).mark(79), (1, 1));
-    assert_eq!(outline(&[(1, ""), (4, "1"), (3, "1"), (4, "3")]).mark(79), (0, 0));
-    assert_eq!(outline(&[(1, ""), (4, "1"), (3, "2")]).mark(79), (1, 3));
+    assert_eq!(outline(&[(1, ""), (0, "")]).mark(79), (1, 2, 0));
+    assert_eq!(outline(&[(-1, ""), (0, "1")]).mark(79), (1, 1, 0));
+    assert_eq!(outline(&[(1, ""), (4, "1"), (3, "1"), (4, "3")]).mark(79), (0, 0, 0));
+    assert_eq!(outline(&[(1, ""), (4, "1"), (3, "2")]).mark(79), (1, 3, 1));
     // Level 1 has none even if a lower level stands before it.
-    assert_eq!(outline(&[(1, ""), (1, "1")]).mark(79), (1, 2));
-    assert_eq!(outline(&[(2, "")]).mark(79), (1, 1));
+    assert_eq!(outline(&[(1, ""), (1, "1")]).mark(79), (1, 2, 0));
+    assert_eq!(outline(&[(2, "")]).mark(79), (1, 1, 0));
 }
 
 fn typed(types: &[&str]) -> String {
@@ -356,18 +363,18 @@ fn typed(types: &[&str]) -> String {
 fn parents_are_summaries() {
     let rows = [(1, ""), (2, "1"), (3, "2"), (2, "1")];
     let set = outline(&rows);
-    assert_eq!(set.with(9, &typed(&["summary", "SUMMARY", "X", "X"])).mark(80), (0, 0));
-    assert_eq!(set.with(9, &typed(&["SUMMARY", "X", "X", "X"])).mark(80), (1, 3));
-    assert_eq!(set.with(9, &typed(&["X", "SUMMARY", "X", "X"])).mark(80), (1, 2));
-    assert_eq!(set.mark(80), (1, 2));
+    assert_eq!(set.with(9, &typed(&["summary", "SUMMARY", "X", "X"])).mark(80), (0, 0, 0));
+    assert_eq!(set.with(9, &typed(&["SUMMARY", "X", "X", "X"])).mark(80), (1, 3, 2));
+    assert_eq!(set.with(9, &typed(&["X", "SUMMARY", "X", "X"])).mark(80), (1, 2, 1));
+    assert_eq!(set.mark(80), (1, 2, 1));
     // The ParentTaskID as given doesn't matter, only the parent itself.
     let wrong = outline(&[(1, ""), (2, "2"), (3, ""), (2, "9")]);
-    assert_eq!(wrong.with(9, &typed(&["SUMMARY", "SUMMARY", "X", "X"])).mark(80), (0, 0));
+    assert_eq!(wrong.with(9, &typed(&["SUMMARY", "SUMMARY", "X", "X"])).mark(80), (0, 0, 0));
     // No parent, or Level 1: nothing to ask.
-    assert_eq!(outline(&[(2, ""), (0, "")]).mark(80), (0, 0));
-    assert_eq!(outline(&[(0, ""), (1, "")]).mark(80), (0, 0));
+    assert_eq!(outline(&[(2, ""), (0, "")]).mark(80), (0, 0, 0));
+    assert_eq!(outline(&[(0, ""), (1, "")]).mark(80), (0, 0, 0));
     // One task of that ID is enough.
     let twice =
         r#"[{"ID":"1","Name":"N","TaskTypeID":"X"},{"ID":"1","Name":"N","TaskTypeID":"SUMMARY"}]"#;
-    assert_eq!(outline(&[(1, ""), (2, "1")]).with(9, twice).mark(80), (0, 0));
+    assert_eq!(outline(&[(1, ""), (2, "1")]).with(9, twice).mark(80), (0, 0, 0));
 }

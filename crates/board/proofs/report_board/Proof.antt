@@ -1,4 +1,5 @@
--- `board::report_board` meets its contract: a board has 81 marks, whose text fits 4,096 bytes.
+-- `board::report_board` meets its contract: a board has 81 marks, whose text fits 6,144 bytes.
+use Rattle.board.specs.Board.{marksOn}
 use Rattle.board.proofs.Laws.{board-written}
 use borrow.Author.Needs.{needs}
 use denote.Ref.{now}
@@ -11,6 +12,9 @@ slice-aggregate-report c = search needs
 slice-aggregate-report-2 : tie.Need-slice-aggregate-report-2
 slice-aggregate-report-2 c = search needs
 
+slice-aggregate-report-3 : tie.Need-slice-aggregate-report-3
+slice-aggregate-report-3 c = search needs
+
 report-requires : tie.Need-report-requires
 report-requires c κs = search needs
 
@@ -19,10 +23,16 @@ same-length c = search needs
 
 returns : tie.Need-returns
 returns c =
-    let a = c .before .before .before .before .before .before .before .before .before .args in
-    board-written (a .refusal) (a .board .kinds) (a .board .places) (now (a .out)) (search needs) (search needs) (c .before .before .report .ensures)
+    let a = c .before .before .before .before .before .before .before .before .before .before .before .args in
+    board-written (a .refusal) (marksOn (a .board)) (now (a .out)) (record { kinds-long = search needs; places-long = search needs; companions-long = search needs }) (c .before .before .report .ensures)
 
 pub report-board-spec : {M : Type 1} → statement M
 report-board-spec =
     tie.close
-    (tie.spec slice-aggregate-report slice-aggregate-report-2 report-requires same-length returns)
+    (tie.spec
+    slice-aggregate-report
+    slice-aggregate-report-2
+    slice-aggregate-report-3
+    report-requires
+    same-length
+    returns)

@@ -2,21 +2,17 @@
 -- Assumes nothing.
 use borrow.Author.Needs.{needs}
 use borrow.Author.Tests.{lt-ltb}
-use Rattle.mark_numbers.specs.Marks.{markIn}
 use Rattle.found_marks.specs.Found.{foundMark}
 use Rattle.found_marks.proofs.Laws.{first-missing, second-missing, rule-found}
 use Rattle.found_marks.proofs.mark_at.Statement.{statement}
 use Rattle.found_marks.proofs.mark_at.Tie as tie
 
-kind-at-requires : tie.Need-kind-at-requires
-kind-at-requires c κs = search needs
-
-number-at-requires : tie.Need-number-at-requires
-number-at-requires c κs = search needs
+mark-in-requires : tie.Need-mark-in-requires
+mark-in-requires c κs = search needs
 
 returns : tie.Need-returns
-unfolding foundMark markIn
-returns c = rw (lt-ltb _ _ (c .before .before .if1 .taken), c .before .kind-at .ensures, c .number-at .ensures)
+unfolding foundMark
+returns c = rw (lt-ltb _ _ (c .before .if1 .taken)) (c .mark-in .ensures)
 
 first-file-requires : tie.Need-first-file-requires
 first-file-requires c κs = search needs
@@ -41,8 +37,7 @@ pub mark-at-spec : {M : Type 1} → statement M
 mark-at-spec =
     tie.close
     (tie.spec
-    kind-at-requires
-    number-at-requires
+    mark-in-requires
     returns
     first-file-requires
     returns-2

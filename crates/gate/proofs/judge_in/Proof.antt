@@ -15,6 +15,9 @@ slice-aggregate-judge-lists c = sym (length-replicate {A = ℕ} 81 2)
 slice-aggregate-judge-lists-2 : tie.Need-slice-aggregate-judge-lists-2
 slice-aggregate-judge-lists-2 c = sym (length-replicate {A = ℕ} 81 0)
 
+slice-aggregate-judge-lists-3 : tie.Need-slice-aggregate-judge-lists-3
+slice-aggregate-judge-lists-3 c = sym (length-replicate {A = ℕ} 81 0)
+
 judge-lists-requires : tie.Need-judge-lists-requires
 judge-lists-requires c κs = search needs
 
@@ -23,7 +26,7 @@ same-length c = search needs
 
 returns : tie.Need-returns
 unfolding gateCalled freshMarks marksFrom listOf
-returns c = verdict-is _ (c .before .before .before .before .judge-lists .ensures)
+returns c = verdict-is _ (c .before .before .before .before .before .judge-lists .ensures)
 
 pub judge-in-spec : {M : Type 1} → statement M
 judge-in-spec =
@@ -31,6 +34,7 @@ judge-in-spec =
     (tie.spec
     slice-aggregate-judge-lists
     slice-aggregate-judge-lists-2
+    slice-aggregate-judge-lists-3
     judge-lists-requires
     same-length
     returns)

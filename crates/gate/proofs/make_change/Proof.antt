@@ -5,8 +5,9 @@ use borrow.Author.Needs.{needs}
 use denote.Ref.{now}
 use lib.ListN.{length, length-replicate}
 use Rattle.parts.specs.Files.{newFile}
+use Rattle.mark_numbers.proofs.Laws.{Long}
 use Rattle.board.specs.Board.{marksOn}
-use Rattle.gate.proofs.Laws.{Of81, own-make, own-output}
+use Rattle.gate.proofs.Laws.{own-make, own-output}
 use Rattle.gate.proofs.make_change.Statement.{statement}
 use Rattle.gate.proofs.make_change.Tie as tie
 
@@ -20,8 +21,8 @@ same-length : tie.Need-same-length
 same-length c = c .before .before .before .make-in .kept .1 .1 .1 .1 .1 .0
 
 -- asked at the start, where there is no workspace to compute yet
-board-long : (c : tie.Start) → Of81 (marksOn (c .args .board))
-board-long c = (search needs, search needs)
+board-long : (c : tie.Start) → Long 81 (marksOn (c .args .board))
+board-long c = record { kinds-long = search needs; places-long = search needs; companions-long = search needs }
 
 returns : tie.Need-returns
 returns c =

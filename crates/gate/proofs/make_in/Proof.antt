@@ -11,6 +11,9 @@ slice-aggregate-make-lists c = search needs
 slice-aggregate-make-lists-2 : tie.Need-slice-aggregate-make-lists-2
 slice-aggregate-make-lists-2 c = search needs
 
+slice-aggregate-make-lists-3 : tie.Need-slice-aggregate-make-lists-3
+slice-aggregate-make-lists-3 c = search needs
+
 make-lists-requires : tie.Need-make-lists-requires
 make-lists-requires c κs = search needs
 
@@ -22,7 +25,7 @@ same-length-2 c = search needs
 
 returns : tie.Need-returns
 unfolding gateCalled
-returns c = verdict-is _ (c .before .before .before .before .before .before .make-lists .ensures)
+returns c = verdict-is _ (c .before .before .before .before .before .before .before .make-lists .ensures)
 
 pub make-in-spec : {M : Type 1} → statement M
 make-in-spec =
@@ -30,6 +33,7 @@ make-in-spec =
     (tie.spec
     slice-aggregate-make-lists
     slice-aggregate-make-lists-2
+    slice-aggregate-make-lists-3
     make-lists-requires
     same-length
     same-length-2

@@ -5,8 +5,9 @@ use borrow.Author.Needs.{needs}
 use denote.Ref.{now}
 use lib.ListN.{length-replicate}
 use Rattle.parts.specs.Files.{newFile}
+use Rattle.mark_numbers.proofs.Laws.{Long}
 use Rattle.board.specs.Board.{marksOn}
-use Rattle.gate.proofs.Laws.{Of81, own-try}
+use Rattle.gate.proofs.Laws.{own-try}
 use Rattle.gate.proofs.try_change.Statement.{statement}
 use Rattle.gate.proofs.try_change.Tie as tie
 
@@ -17,8 +18,8 @@ try-in-requires : tie.Need-try-in-requires
 try-in-requires c κs = search needs
 
 -- asked at the start, where there is no workspace to compute yet
-board-long : (c : tie.Start) → Of81 (marksOn (c .args .board))
-board-long c = (search needs, search needs)
+board-long : (c : tie.Start) → Long 81 (marksOn (c .args .board))
+board-long c = record { kinds-long = search needs; places-long = search needs; companions-long = search needs }
 
 returns : tie.Need-returns
 returns c =

@@ -11,6 +11,9 @@ slice-aggregate-try-lists c = search needs
 slice-aggregate-try-lists-2 : tie.Need-slice-aggregate-try-lists-2
 slice-aggregate-try-lists-2 c = search needs
 
+slice-aggregate-try-lists-3 : tie.Need-slice-aggregate-try-lists-3
+slice-aggregate-try-lists-3 c = search needs
+
 try-lists-requires : tie.Need-try-lists-requires
 try-lists-requires c κs = search needs
 
@@ -19,7 +22,7 @@ same-length c = search needs
 
 returns : tie.Need-returns
 unfolding gateCalled
-returns c = verdict-is _ (c .before .before .before .before .try-lists .ensures)
+returns c = verdict-is _ (c .before .before .before .before .before .try-lists .ensures)
 
 pub try-in-spec : {M : Type 1} → statement M
 try-in-spec =
@@ -27,6 +30,7 @@ try-in-spec =
     (tie.spec
     slice-aggregate-try-lists
     slice-aggregate-try-lists-2
+    slice-aggregate-try-lists-3
     try-lists-requires
     same-length
     returns)

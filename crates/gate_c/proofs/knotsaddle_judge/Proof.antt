@@ -1,41 +1,32 @@
--- `gate_c::knotsaddle_judge` meets its contract: `knotsaddle_judge_in` in a workspace of its own.
-use Prim.Native.Nat.{ℕ}
-use mathlib.Core.Path.{sym}
+-- `gate_c::knotsaddle_judge` meets its contract: the refusal of the gate of document 01.
 use borrow.Author.Needs.{needs}
 use denote.Ref.{now}
 use Rattle.mark_numbers.specs.Marks.{marksIn}
-use Rattle.gate_calls.specs.Calls.{Answer}
-use Rattle.gate_calls.specs.Lent.{judgedIn}
-use Rattle.schedule.specs.Schedule.{schedule}
-use Rattle.gate_c.proofs.Laws.{own-long, in-own}
+use Rattle.gate_c.proofs.Laws.{judge-called}
 use Rattle.gate_c.proofs.knotsaddle_judge.Statement.{statement}
 use Rattle.gate_c.proofs.knotsaddle_judge.Tie as tie
 
-slice-aggregate-knotsaddle-judge-in : tie.Need-slice-aggregate-knotsaddle-judge-in
-slice-aggregate-knotsaddle-judge-in c = sym own-long
-
-knotsaddle-judge-in-requires : tie.Need-knotsaddle-judge-in-requires
-knotsaddle-judge-in-requires c κs = search needs
+judge-lists-requires : tie.Need-judge-lists-requires
+judge-lists-requires c κs = search needs
 
 same-length : tie.Need-same-length
-same-length c = c .before .before .before .before .before .knotsaddle-judge-in .kept .1 .0
+same-length c = search needs
 
 same-length-2 : tie.Need-same-length-2
-same-length-2 c = c .before .before .before .before .before .knotsaddle-judge-in .kept .1 .1 .0
+same-length-2 c = search needs
+
+same-length-3 : tie.Need-same-length-3
+same-length-3 c = search needs
+
+same-length-4 : tie.Need-same-length-4
+same-length-4 c = search needs
 
 returns : tie.Need-returns
 returns c =
-    let a = c .before .before .before .before .before .before .before .before .before .before .before .before .args in
-    let of : ℕ → Answer = λ lent. judgedIn schedule (now (a .bundle)) lent (marksIn (now (a .kinds)) (now (a .places))) in
-    let lent = c .before .before .before .before .before .knotsaddle-judge-in .ensures in
-    (in-own (λ n. of n .refusal) (lent .0), in-own (λ n. of n .marks) (lent .1 .0))
+    let a = c .before .before .before .before .before .before .before .before .before .before .before .before .before .before .before .before .before .before .args in
+    judge-called (now (a .bundle)) (marksIn (now (a .kinds)) (now (a .places)) (now (a .companions))) (now (a .work)) (c .before .before .before .before .before .before .before .before .judge-lists .ensures)
 
 pub knotsaddle-judge-spec : {M : Type 1} → statement M
 knotsaddle-judge-spec =
     tie.close
-    (tie.spec
-    slice-aggregate-knotsaddle-judge-in
-    knotsaddle-judge-in-requires
-    same-length
-    same-length-2
-    returns)
+    (tie.spec judge-lists-requires same-length same-length-2 same-length-3 same-length-4 returns)

@@ -1,54 +1,77 @@
--- `gate_c::knotsaddle_make` meets its contract: `knotsaddle_make_in` in a workspace of its own.
-use Prim.Native.Nat.{ℕ}
-use mathlib.Core.Path.{sym}
-use mathlib.Core.List.{List}
+-- `gate_c::knotsaddle_make` meets its contract: with a fault of its own it leaves everything as it is.
 use borrow.Author.Needs.{needs}
 use denote.Ref.{now}
-use lib.ListN.{length}
-use Rattle.mark_numbers.specs.Marks.{Marks, marksIn}
-use Rattle.gate_calls.specs.Calls.{Answer}
-use Rattle.gate_c.specs.Calls.{makeCalled, outputCalled, sizeCalled}
-use Rattle.schedule.specs.Schedule.{schedule}
-use Rattle.gate_c.proofs.Laws.{own-long, in-own}
+use Rattle.mark_numbers.specs.Marks.{marksIn}
+use Rattle.gate_c.proofs.Laws.{size-fits, make-ill, make-well}
 use Rattle.gate_c.proofs.knotsaddle_make.Statement.{statement}
 use Rattle.gate_c.proofs.knotsaddle_make.Tie as tie
 
-slice-aggregate-knotsaddle-make-in : tie.Need-slice-aggregate-knotsaddle-make-in
-slice-aggregate-knotsaddle-make-in c = sym own-long
-
-knotsaddle-make-in-requires : tie.Need-knotsaddle-make-in-requires
-knotsaddle-make-in-requires c κs = search needs
+call-fault-requires : tie.Need-call-fault-requires
+call-fault-requires c κs = search needs
 
 same-length : tie.Need-same-length
-same-length c = c .before .before .before .before .before .before .before .before .before .knotsaddle-make-in .kept .1 .0
+same-length c = search needs
 
 same-length-2 : tie.Need-same-length-2
-same-length-2 c = c .before .before .before .before .before .before .before .before .before .knotsaddle-make-in .kept .1 .1 .0
+same-length-2 c = search needs
 
 same-length-3 : tie.Need-same-length-3
-same-length-3 c = c .before .before .before .before .before .before .before .before .before .knotsaddle-make-in .kept .1 .1 .1 .1 .1 .1 .0
+same-length-3 c = search needs
 
 same-length-4 : tie.Need-same-length-4
-same-length-4 c = c .before .before .before .before .before .before .before .before .before .knotsaddle-make-in .kept .1 .1 .1 .1 .1 .1 .1 .0
+same-length-4 c = search needs
 
 returns : tie.Need-returns
 returns c =
-    let a = c .before .before .before .before .before .before .before .before .before .before .before .before .before .before .before .before .before .before .before .before .before .args in
-    let handed : Marks = marksIn (now (a .kinds)) (now (a .places)) in
-    let of : ℕ → Answer = λ lent. makeCalled schedule (now (a .bundle)) (a .file) (a .present) (now (a .new-bytes)) (length (now (a .out))) (now (a .size)) lent handed in
-    let out : ℕ → List ℕ = λ lent. outputCalled schedule (now (a .bundle)) (a .file) (a .present) (now (a .new-bytes)) (now (a .out)) (now (a .size)) lent handed in
-    let size : ℕ → List ℕ = λ lent. sizeCalled schedule (now (a .bundle)) (a .file) (a .present) (now (a .new-bytes)) (length (now (a .out))) (now (a .size)) lent handed in
-    let lent = c .before .before .before .before .before .before .before .before .before .knotsaddle-make-in .ensures in
-    (in-own (λ n. of n .refusal) (lent .0), (in-own (λ n. of n .marks) (lent .1 .0), (in-own out (lent .1 .1 .0), in-own size (lent .1 .1 .1 .0))))
+    let a = c .before .before .before .before .before .before .before .before .before .before .before .before .before .before .args in
+    make-ill (now (a .bundle)) (a .file) (a .present) (now (a .new-bytes)) (marksIn (now (a .kinds)) (now (a .places)) (now (a .companions))) (now (a .size)) (now (a .work)) (c .before .call-fault .ensures) (now (a .out)) (c .if1 .taken)
+
+make-lists-requires : tie.Need-make-lists-requires
+make-lists-requires c κs = search needs
+
+put-size-requires : tie.Need-put-size-requires
+put-size-requires c κs = size-fits _ _ _ (c .before .before .before .before .before .before .before .before .before .before .before .before .before .before .before .before .before .before .call-fault .ensures) (c .before .before .before .before .before .before .before .before .before .before .before .before .before .before .before .before .before .if1 .left)
+
+same-length-5 : tie.Need-same-length-5
+same-length-5 c = search needs
+
+same-length-6 : tie.Need-same-length-6
+same-length-6 c = search needs
+
+same-length-7 : tie.Need-same-length-7
+same-length-7 c = search needs
+
+same-length-8 : tie.Need-same-length-8
+same-length-8 c = search needs
+
+same-length-9 : tie.Need-same-length-9
+same-length-9 c = search needs
+
+same-length-10 : tie.Need-same-length-10
+same-length-10 c = search needs
+
+returns-2 : tie.Need-returns-2
+returns-2 c =
+    let tested = c .before .before .before .before .before .before .before .before .before .before .before .before .before .before .before .before .before .before .before .before in
+    let a = tested .before .before .before .before .before .before .before .before .before .before .before .before .before .before .args in
+    make-well (now (a .bundle)) (a .file) (a .present) (now (a .new-bytes)) (marksIn (now (a .kinds)) (now (a .places)) (now (a .companions))) (now (a .size)) (now (a .work)) (tested .before .call-fault .ensures) (now (a .out)) (tested .if1 .left) (c .before .before .before .before .before .before .before .before .before .before .before .before .before .before .make-lists .ensures) (c .before .before .put-size .ensures)
 
 pub knotsaddle-make-spec : {M : Type 1} → statement M
 knotsaddle-make-spec =
     tie.close
     (tie.spec
-    slice-aggregate-knotsaddle-make-in
-    knotsaddle-make-in-requires
+    call-fault-requires
     same-length
     same-length-2
     same-length-3
     same-length-4
-    returns)
+    returns
+    make-lists-requires
+    put-size-requires
+    same-length-5
+    same-length-6
+    same-length-7
+    same-length-8
+    same-length-9
+    same-length-10
+    returns-2)

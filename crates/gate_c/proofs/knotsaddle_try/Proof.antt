@@ -1,41 +1,73 @@
--- `gate_c::knotsaddle_try` meets its contract: `knotsaddle_try_in` in a workspace of its own.
-use Prim.Native.Nat.{ℕ}
-use mathlib.Core.Path.{sym}
+-- `gate_c::knotsaddle_try` meets its contract: with a fault of its own it leaves everything as it is.
 use borrow.Author.Needs.{needs}
 use denote.Ref.{now}
 use Rattle.mark_numbers.specs.Marks.{marksIn}
-use Rattle.gate_calls.specs.Calls.{Answer}
-use Rattle.gate_c.specs.Calls.{tryCalled}
-use Rattle.schedule.specs.Schedule.{schedule}
-use Rattle.gate_c.proofs.Laws.{own-long, in-own}
+use Rattle.gate_c.proofs.Laws.{size-fits, try-ill, try-well}
 use Rattle.gate_c.proofs.knotsaddle_try.Statement.{statement}
 use Rattle.gate_c.proofs.knotsaddle_try.Tie as tie
 
-slice-aggregate-knotsaddle-try-in : tie.Need-slice-aggregate-knotsaddle-try-in
-slice-aggregate-knotsaddle-try-in c = sym own-long
-
-knotsaddle-try-in-requires : tie.Need-knotsaddle-try-in-requires
-knotsaddle-try-in-requires c κs = search needs
+call-fault-requires : tie.Need-call-fault-requires
+call-fault-requires c κs = search needs
 
 same-length : tie.Need-same-length
-same-length c = c .before .before .before .before .before .knotsaddle-try-in .kept .1 .0
+same-length c = search needs
 
 same-length-2 : tie.Need-same-length-2
-same-length-2 c = c .before .before .before .before .before .knotsaddle-try-in .kept .1 .1 .0
+same-length-2 c = search needs
+
+same-length-3 : tie.Need-same-length-3
+same-length-3 c = search needs
+
+same-length-4 : tie.Need-same-length-4
+same-length-4 c = search needs
 
 returns : tie.Need-returns
 returns c =
     let a = c .before .before .before .before .before .before .before .before .before .before .before .before .before .args in
-    let of : ℕ → Answer = λ lent. tryCalled schedule (now (a .bundle)) (a .file) (a .present) (now (a .new-bytes)) lent (marksIn (now (a .kinds)) (now (a .places))) in
-    let lent = c .before .before .before .before .before .knotsaddle-try-in .ensures in
-    (in-own (λ n. of n .refusal) (lent .0), in-own (λ n. of n .marks) (lent .1 .0))
+    try-ill (now (a .bundle)) (a .file) (a .present) (now (a .new-bytes)) (marksIn (now (a .kinds)) (now (a .places)) (now (a .companions))) (now (a .size)) (now (a .work)) (c .before .call-fault .ensures) (c .if1 .taken)
+
+try-lists-requires : tie.Need-try-lists-requires
+try-lists-requires c κs = search needs
+
+put-size-requires : tie.Need-put-size-requires
+put-size-requires c κs = size-fits _ _ _ (c .before .before .before .before .before .before .before .before .before .before .before .before .before .before .before .call-fault .ensures) (c .before .before .before .before .before .before .before .before .before .before .before .before .before .before .if1 .left)
+
+same-length-5 : tie.Need-same-length-5
+same-length-5 c = search needs
+
+same-length-6 : tie.Need-same-length-6
+same-length-6 c = search needs
+
+same-length-7 : tie.Need-same-length-7
+same-length-7 c = search needs
+
+same-length-8 : tie.Need-same-length-8
+same-length-8 c = search needs
+
+same-length-9 : tie.Need-same-length-9
+same-length-9 c = search needs
+
+returns-2 : tie.Need-returns-2
+returns-2 c =
+    let tested = c .before .before .before .before .before .before .before .before .before .before .before .before .before .before .before .before .before in
+    let a = tested .before .before .before .before .before .before .before .before .before .before .before .before .before .args in
+    try-well (now (a .bundle)) (a .file) (a .present) (now (a .new-bytes)) (marksIn (now (a .kinds)) (now (a .places)) (now (a .companions))) (now (a .size)) (now (a .work)) (tested .before .call-fault .ensures) (tested .if1 .left) (c .before .before .before .before .before .before .before .before .before .before .before .before .try-lists .ensures) (c .before .before .put-size .ensures)
 
 pub knotsaddle-try-spec : {M : Type 1} → statement M
 knotsaddle-try-spec =
     tie.close
     (tie.spec
-    slice-aggregate-knotsaddle-try-in
-    knotsaddle-try-in-requires
+    call-fault-requires
     same-length
     same-length-2
-    returns)
+    same-length-3
+    same-length-4
+    returns
+    try-lists-requires
+    put-size-requires
+    same-length-5
+    same-length-6
+    same-length-7
+    same-length-8
+    same-length-9
+    returns-2)

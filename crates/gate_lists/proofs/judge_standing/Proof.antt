@@ -20,11 +20,21 @@ same-length-2 c = search needs
 same-length-3 : tie.Need-same-length-3
 same-length-3 c = search needs
 
+same-length-4 : tie.Need-same-length-4
+same-length-4 c = search needs
+
 returns : tie.Need-returns
 returns c =
-    let a = c .before .before .before .before .before .before .before .before .before .before .before .before .before .before .before .before .before .args in
-    judged-called (a .which) (a .scope) (standing (now (a .a)) (now (a .b)) (now (a .c)) (now (a .stand))) (length (now (a .work))) (marksIn (now (a .kinds)) (now (a .places))) (now (a .work)) (c .before .before .before .before .before .before .schedule-marks .ensures)
+    let a = c .before .before .before .before .before .before .before .before .before .before .before .before .before .before .before .before .before .before .before .before .before .args in
+    judged-called (a .which) (a .scope) (standing (now (a .a)) (now (a .b)) (now (a .c)) (now (a .stand))) (length (now (a .work))) (marksIn (now (a .kinds)) (now (a .places)) (now (a .companions))) (now (a .work)) (c .before .before .before .before .before .before .before .before .schedule-marks .ensures)
 
 pub judge-standing-spec : {M : Type 1} → statement M
 judge-standing-spec =
-    tie.close (tie.spec schedule-marks-requires same-length same-length-2 same-length-3 returns)
+    tie.close
+    (tie.spec
+    schedule-marks-requires
+    same-length
+    same-length-2
+    same-length-3
+    same-length-4
+    returns)

@@ -1,21 +1,21 @@
--- `gate_marks::has_lists` meets its contract: two tests, one after the other.
+-- `gate_marks::has_lists` meets its contract.
 -- Assumes nothing.
 use borrow.Author.Needs.{needs}
-use borrow.Author.Tests.{eq-eqb, ne-eqb}
 use Rattle.gate_marks.proofs.has_lists.Statement.{statement}
 use Rattle.gate_marks.proofs.has_lists.Tie as tie
 
 rule-count-requires : tie.Need-rule-count-requires
 rule-count-requires c κs = search needs
 
-add-marks : tie.Need-add-marks
-add-marks c = search needs
+add-have-length : tie.Need-add-have-length
+add-have-length c = search needs
+
+have-length-requires : tie.Need-have-length-requires
+have-length-requires c κs = search needs
 
 returns : tie.Need-returns
-returns c = rw (← (c .before .rule-count .ensures), eq-eqb _ _ (c .if1 .taken))
-
-returns-2 : tie.Need-returns-2
-returns-2 c = rw (← (c .before .rule-count .ensures), ne-eqb _ _ (c .if1 .left))
+returns c = rw (← (c .before .rule-count .ensures)) (c .have-length .ensures)
 
 pub has-lists-spec : {M : Type 1} → statement M
-has-lists-spec = tie.close (tie.spec rule-count-requires add-marks returns returns-2)
+has-lists-spec =
+    tie.close (tie.spec rule-count-requires add-have-length have-length-requires returns)

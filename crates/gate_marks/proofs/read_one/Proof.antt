@@ -1,9 +1,9 @@
 -- `gate_marks::read_one` meets its contract: whether the file is there and its bytes say which file it is.
 -- Assumes nothing.
 use mathlib.Core.Path.{_∙_}
-use native.Mathlib.Omega.{arith}
 use borrow.Author.Needs.{needs}
 use denote.Ref.{now}
+use Rattle.mark_numbers.specs.Marks.{marksIn}
 use Rattle.standing.proofs.Laws.{there-present}
 use Rattle.gate_marks.proofs.Reading.{one-read}
 use Rattle.gate_marks.proofs.read_one.Statement.{statement}
@@ -30,23 +30,14 @@ part-read-own-end c = search needs
 read-own-requires : tie.Need-read-own-requires
 read-own-requires c κs = search needs
 
-mul-kinds : tie.Need-mul-kinds
-mul-kinds c = omega (arith, c .before .before .before .before .before .before .before .before .before .before .before .before .before .before .before .before .before .before .pre .0)
+mark-read-requires : tie.Need-mark-read-requires
+mark-read-requires c κs = search needs
 
-slice-write-kinds : tie.Need-slice-write-kinds
-slice-write-kinds c = search needs
+put-mark-requires : tie.Need-put-mark-requires
+put-mark-requires c κs = search needs
 
-mul-places : tie.Need-mul-places
-mul-places c = omega (arith, c .before .before .before .before .before .before .before .before .before .before .before .before .before .before .before .before .before .before .pre .0)
-
-slice-write-places : tie.Need-slice-write-places
-slice-write-places c = search needs
-
-mul-records : tie.Need-mul-records
-mul-records c = omega (arith, c .before .before .before .before .before .before .before .before .before .before .before .before .before .before .before .before .before .before .pre .0)
-
-slice-write-records : tie.Need-slice-write-records
-slice-write-records c = search needs
+put-number-requires : tie.Need-put-number-requires
+put-number-requires c κs = search needs
 
 same-length : tie.Need-same-length
 same-length c = search needs
@@ -60,9 +51,13 @@ same-length-3 c = search needs
 same-length-4 : tie.Need-same-length-4
 same-length-4 c = search needs
 
+same-length-5 : tie.Need-same-length-5
+same-length-5 c = search needs
+
 returns : tie.Need-returns
 returns c =
-    one-read _ _ _ _ (c .before .before .before .before .before .is-there .ensures ∙ there-present _ _ _ _ _) (c .before .before .before .before .part-standing .ensures) _ _ _ (c .before .before .before .before .before .before .before .before .before .before .before .before .before .before .before .before .before .before .pre .4) (c .before .before .before .before .before .before .before .before .before .before .before .before .before .before .before .before .before .before .pre .5) _ _ (c .before .before .read-own .ensures .0) (c .before .before .read-own .ensures .1) _ (now (c .before .before .before .before .before .before .before .before .before .before .before .before .before .before .before .before .before .before .args .kinds)) (now (c .before .before .before .before .before .before .before .before .before .before .before .before .before .before .before .before .before .before .args .places)) (now (c .before .before .before .before .before .before .before .before .before .before .before .before .before .before .before .before .before .before .args .records))
+    let a = c .before .before .before .before .before .before .before .before .before .before .before .before .before .before .before .before .before .before .before .before .before .before .before .before .before .before .before .before .before .before .before .before .before .before .args in
+    one-read _ _ _ _ (c .before .before .before .before .before .before .before .before .before .before .before .before .before .before .before .before .before .before .before .before .is-there .ensures ∙ there-present _ _ _ _ _) (c .before .before .before .before .before .before .before .before .before .before .before .before .before .before .before .before .before .before .before .part-standing .ensures) _ _ _ (c .before .before .before .before .before .before .before .before .before .before .before .before .before .before .before .before .before .before .before .before .before .before .before .before .before .before .before .before .before .before .before .before .before .before .pre .0) (c .before .before .before .before .before .before .before .before .before .before .before .before .before .before .before .before .before .before .before .before .before .before .before .before .before .before .before .before .before .before .before .before .before .before .pre .1) _ _ (c .before .before .before .before .before .before .before .before .before .before .before .before .before .before .before .before .before .read-own .ensures .0) (c .before .before .before .before .before .before .before .before .before .before .before .before .before .before .before .before .before .read-own .ensures .1) (a .k) (marksIn (now (a .kinds)) (now (a .places)) (now (a .companions))) (now (a .records)) (c .before .before .before .before .before .before .before .before .before .before .before .before .before .before .mark-read .ensures) (c .before .before .before .before .before .before .before .before .before .before .put-mark .ensures) (c .before .before .put-number .ensures)
 
 pub read-one-spec : {M : Type 1} → statement M
 read-one-spec =
@@ -75,14 +70,12 @@ read-one-spec =
     part-read-own-start
     part-read-own-end
     read-own-requires
-    mul-kinds
-    slice-write-kinds
-    mul-places
-    slice-write-places
-    mul-records
-    slice-write-records
+    mark-read-requires
+    put-mark-requires
+    put-number-requires
     same-length
     same-length-2
     same-length-3
     same-length-4
+    same-length-5
     returns)

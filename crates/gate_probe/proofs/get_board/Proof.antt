@@ -1,4 +1,4 @@
--- `gate_probe::get_board` is safe and ends: the lists keep their lengths, and each turn takes one of 81 pairs.
+-- `gate_probe::get_board` is safe and ends: the lists keep their lengths, and each turn takes one of 81 marks.
 use Prim.Native.Nat.{_-_, _≤_}
 use mathlib.Core.Path.{_≡_, _∙_}
 use native.Mathlib.Omega.{arith}
@@ -8,11 +8,11 @@ use Rattle.gate_probe.proofs.get_board.Statement.{statement}
 use Rattle.gate_probe.proofs.get_board.Tie as tie
 
 abbrev Inv-loop : tie.InvT-loop
-Inv-loop bytes kinds₀ places₀ m₀ kinds places m =
-    (m ≤ 81) × (length kinds ≡ length kinds₀) × (length places ≡ length places₀)
+Inv-loop bytes kinds₀ places₀ companions₀ m₀ kinds places companions m =
+    (m ≤ 81) × (length kinds ≡ length kinds₀) × (length places ≡ length places₀) × (length companions ≡ length companions₀)
 
 abbrev μ-loop : tie.MeasureT-loop
-μ-loop bytes kinds₀ places₀ m₀ kinds places m = 81 - m
+μ-loop bytes kinds₀ places₀ companions₀ m₀ kinds places companions m = 81 - m
 
 loop-holds : tie.Need-loop-holds Inv-loop μ-loop
 loop-holds c = omega arith
@@ -47,6 +47,24 @@ mul-places c = omega arith
 slice-write-places : tie.Need-slice-write-places Inv-loop μ-loop
 slice-write-places c = omega arith
 
+mul-word-at-3 : tie.Need-mul-word-at-3 Inv-loop μ-loop
+mul-word-at-3 c = omega arith
+
+add-word-at-2 : tie.Need-add-word-at-2 Inv-loop μ-loop
+add-word-at-2 c = omega arith
+
+word-at-requires-3 : tie.Need-word-at-requires-3 Inv-loop μ-loop
+word-at-requires-3 c κs = search needs
+
+cast-companions : tie.Need-cast-companions Inv-loop μ-loop
+cast-companions c = omega arith
+
+mul-companions : tie.Need-mul-companions Inv-loop μ-loop
+mul-companions c = omega arith
+
+slice-write-companions : tie.Need-slice-write-companions Inv-loop μ-loop
+slice-write-companions c = omega arith
+
 add-m : tie.Need-add-m Inv-loop μ-loop
 add-m c = omega arith
 
@@ -56,8 +74,9 @@ loop-less c = omega arith
 loop-again : tie.Need-loop-again Inv-loop μ-loop
 loop-again c = (
   omega arith,
-  length-set (c .before .before .before .loop .kinds) _ _ ∙ c .before .before .before .loop .inv .1,
-  length-set (c .before .before .before .loop .places) _ _ ∙ c .before .before .before .loop .inv .2,
+  length-set (c .before .before .before .before .loop .kinds) _ _ ∙ c .before .before .before .before .loop .inv .1,
+  length-set (c .before .before .before .before .loop .places) _ _ ∙ c .before .before .before .before .loop .inv .2,
+  length-set (c .before .before .before .before .loop .companions) _ _ ∙ c .before .before .before .before .loop .inv .3,
 )
 
 same-length : tie.Need-same-length Inv-loop μ-loop
@@ -65,6 +84,9 @@ same-length c = omega arith
 
 same-length-2 : tie.Need-same-length-2 Inv-loop μ-loop
 same-length-2 c = omega arith
+
+same-length-3 : tie.Need-same-length-3 Inv-loop μ-loop
+same-length-3 c = omega arith
 
 returns : tie.Need-returns Inv-loop μ-loop
 returns c = tt
@@ -86,9 +108,16 @@ get-board-spec =
     cast-places
     mul-places
     slice-write-places
+    mul-word-at-3
+    add-word-at-2
+    word-at-requires-3
+    cast-companions
+    mul-companions
+    slice-write-companions
     add-m
     loop-less
     loop-again
     same-length
     same-length-2
+    same-length-3
     returns)

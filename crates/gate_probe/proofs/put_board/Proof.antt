@@ -1,4 +1,4 @@
--- `gate_probe::put_board` is safe and ends: each turn writes one of 81 pairs.
+-- `gate_probe::put_board` is safe and ends: each turn writes one of 81 marks.
 use Prim.Native.Nat.{_-_, _≤_}
 use mathlib.Core.Path.{_≡_}
 use native.Mathlib.Omega.{arith}
@@ -8,11 +8,11 @@ use Rattle.gate_probe.proofs.put_board.Statement.{statement}
 use Rattle.gate_probe.proofs.put_board.Tie as tie
 
 abbrev Inv-loop : tie.InvT-loop
-Inv-loop out₀ at kinds places m₀ out m =
+Inv-loop out₀ at kinds places companions m₀ out m =
     (m ≤ 81) × (length out ≡ length out₀)
 
 abbrev μ-loop : tie.MeasureT-loop
-μ-loop out₀ at kinds places m₀ out m = 81 - m
+μ-loop out₀ at kinds places companions m₀ out m = 81 - m
 
 loop-holds : tie.Need-loop-holds Inv-loop μ-loop
 loop-holds c = omega arith
@@ -53,6 +53,27 @@ low-requires c κs = search needs
 put-word-requires-2 : tie.Need-put-word-requires-2 Inv-loop μ-loop
 put-word-requires-2 c κs = search needs
 
+mul-put-word-4 : tie.Need-mul-put-word-4 Inv-loop μ-loop
+mul-put-word-4 c = omega arith
+
+add-put-word-4 : tie.Need-add-put-word-4 Inv-loop μ-loop
+add-put-word-4 c = omega arith
+
+add-put-word-5 : tie.Need-add-put-word-5 Inv-loop μ-loop
+add-put-word-5 c = omega arith
+
+mul-low-2 : tie.Need-mul-low-2 Inv-loop μ-loop
+mul-low-2 c = omega arith
+
+shared-slice-read-low-2 : tie.Need-shared-slice-read-low-2 Inv-loop μ-loop
+shared-slice-read-low-2 c = omega arith
+
+low-requires-2 : tie.Need-low-requires-2 Inv-loop μ-loop
+low-requires-2 c κs = search needs
+
+put-word-requires-3 : tie.Need-put-word-requires-3 Inv-loop μ-loop
+put-word-requires-3 c κs = search needs
+
 add-m : tie.Need-add-m Inv-loop μ-loop
 add-m c = omega arith
 
@@ -87,6 +108,13 @@ put-board-spec =
     shared-slice-read-low
     low-requires
     put-word-requires-2
+    mul-put-word-4
+    add-put-word-4
+    add-put-word-5
+    mul-low-2
+    shared-slice-read-low-2
+    low-requires-2
+    put-word-requires-3
     add-m
     loop-less
     loop-again

@@ -5,7 +5,7 @@ use mathlib.Core.Path.{_≡_, refl}
 use native.Mathlib.Omega.{arith}
 use lib.ListN.{length}
 use borrow.Author.Needs.{needs}
-use Rattle.mark_numbers.specs.Marks.{marksIn, markIn}
+use Rattle.mark_numbers.specs.Marks.{marksIn}
 use Rattle.report.specs.Report.{linesUpTo}
 use Rattle.report.specs.Output.{outputAt, put}
 use Rattle.report.proofs.Puts.{lines-start, lines-next, lines-end}
@@ -13,26 +13,17 @@ use Rattle.report.proofs.put_lines.Statement.{statement}
 use Rattle.report.proofs.put_lines.Tie as tie
 
 abbrev Inv-loop : tie.InvT-loop
-Inv-loop out₀ at kinds places end₀ m₀ out end m =
-    (outputAt out end ≡ put (outputAt out₀ at) (linesUpTo (marksIn kinds places) m)) × (length out ≡ length out₀) × (m ≤ length kinds)
+Inv-loop out₀ at kinds places companions end₀ m₀ out end m =
+    (outputAt out end ≡ put (outputAt out₀ at) (linesUpTo (marksIn kinds places companions) m)) × (length out ≡ length out₀) × (m ≤ length kinds)
 
 abbrev μ-loop : tie.MeasureT-loop
-μ-loop out₀ at kinds places end₀ m₀ out end m = length kinds - m
+μ-loop out₀ at kinds places companions end₀ m₀ out end m = length kinds - m
 
 loop-holds : tie.Need-loop-holds Inv-loop μ-loop
 loop-holds c = (lines-start _ _, refl, omega arith)
 
-mul-t8 : tie.Need-mul-t8 Inv-loop μ-loop
-mul-t8 c = omega arith
-
-shared-slice-read-t11 : tie.Need-shared-slice-read-t11 Inv-loop μ-loop
-shared-slice-read-t11 c = omega arith
-
-mul-t12 : tie.Need-mul-t12 Inv-loop μ-loop
-mul-t12 c = omega arith
-
-shared-slice-read-t14 : tie.Need-shared-slice-read-t14 Inv-loop μ-loop
-shared-slice-read-t14 c = omega arith
+mark-in-requires : tie.Need-mark-in-requires Inv-loop μ-loop
+mark-in-requires c κs = search needs
 
 put-line-requires : tie.Need-put-line-requires Inv-loop μ-loop
 put-line-requires c κs = search needs
@@ -44,9 +35,8 @@ loop-less : tie.Need-loop-less Inv-loop μ-loop
 loop-less c = omega arith
 
 loop-again : tie.Need-loop-again Inv-loop μ-loop
-unfolding markIn
 loop-again c =
-    (lines-next _ _ _ (c .before .before .before .before .before .before .before .loop .inv .0) (c .before .before .put-line .ensures), omega arith, omega arith)
+    (lines-next _ _ _ (c .before .before .before .mark-in .ensures) (c .before .before .before .before .before .before .loop .inv .0) (c .before .before .put-line .ensures), omega arith, omega arith)
 
 same-length : tie.Need-same-length Inv-loop μ-loop
 same-length c = omega arith
@@ -61,10 +51,7 @@ put-lines-spec =
     Inv-loop
     μ-loop
     loop-holds
-    mul-t8
-    shared-slice-read-t11
-    mul-t12
-    shared-slice-read-t14
+    mark-in-requires
     put-line-requires
     add-m
     loop-less

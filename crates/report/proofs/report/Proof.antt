@@ -5,16 +5,20 @@ use borrow.Author.Needs.{needs}
 use denote.Ref.{now}
 use Rattle.table_rows.specs.Ascii.{codes}
 use Rattle.mark_numbers.specs.Marks.{marksIn}
+use Rattle.mark_numbers.proofs.Laws.{lists-wrong, lists-right}
 use Rattle.report.proofs.Lengths.{report-length}
 use Rattle.report.proofs.Written.{text-unequal, text-many, text-short, text-whole, Due, nothing, board-whole, refusal-whole}
 use Rattle.report.proofs.report.Statement.{statement}
 use Rattle.report.proofs.report.Tie as tie
 
+have-length-requires : tie.Need-have-length-requires
+have-length-requires c κs = search needs
+
 returns : tie.Need-returns
-returns c = nothing _ _ _ (text-unequal _ _ _ (c .if1 .taken))
+returns c = nothing _ _ _ (text-unequal _ _ _ (lists-wrong _ _ (c .before .have-length .ensures) (c .if1 .taken)))
 
 returns-2 : tie.Need-returns-2
-returns-2 c = nothing _ _ _ (text-many _ _ _ (c .before .if1 .left) (c .if2 .taken))
+returns-2 c = nothing _ _ _ (text-many _ _ _ (lists-right _ _ (c .before .before .have-length .ensures) (c .before .if1 .left)) (c .if2 .taken))
 
 mul-if3 : tie.Need-mul-if3
 mul-if3 c = search needs
@@ -23,18 +27,18 @@ add-if3 : tie.Need-add-if3
 add-if3 c = search needs
 
 returns-3 : tie.Need-returns-3
-returns-3 c = nothing _ _ _ (text-short _ _ _ (c .before .before .if1 .left) (c .before .if2 .left) (c .if3 .taken))
+returns-3 c = nothing _ _ _ (text-short _ _ _ (lists-right _ _ (c .before .before .before .have-length .ensures) (c .before .before .if1 .left)) (c .before .if2 .left) (c .if3 .taken))
 
 -- behind all three tests
 abbrev entry : tie.Else3 → tie.Start
-entry c = c .before .before .before .before .before .before
+entry c = c .before .before .before .before .before .before .before .before
 
-due : (c : tie.Else3) → Due (entry c .args .refusal) (marksIn (now (entry c .args .kinds)) (now (entry c .args .places))) (now (entry c .args .out))
+due : (c : tie.Else3) → Due (entry c .args .refusal) (marksIn (now (entry c .args .kinds)) (now (entry c .args .places)) (now (entry c .args .companions))) (now (entry c .args .out))
 due c = (
-  text-whole _ _ _ (c .before .before .if1 .left) (c .before .if2 .left) (c .if3 .left),
+  text-whole _ _ _ (lists-right _ _ (c .before .before .before .have-length .ensures) (c .before .before .if1 .left)) (c .before .if2 .left) (c .if3 .left),
   omega (
     arith,
-    report-length (marksIn (now (entry c .args .kinds)) (now (entry c .args .places))) (c .before .before .before .before .before .shared-slice-known .given) (c .before .before .before .before .shared-slice-known2 .given) (c .before .if2 .left) (entry c .args .refusal) (omega arith),
+    report-length (marksIn (now (entry c .args .kinds)) (now (entry c .args .places)) (now (entry c .args .companions))) (c .before .before .before .before .before .before .before .shared-slice-known .given) (c .before .before .before .before .before .before .shared-slice-known2 .given) (c .before .before .before .before .before .shared-slice-known3 .given) (c .before .if2 .left) (entry c .args .refusal) (omega arith),
   ),
 )
 
@@ -64,6 +68,7 @@ pub report-spec : {M : Type 1} → statement M
 report-spec =
     tie.close
     (tie.spec
+    have-length-requires
     returns
     returns-2
     mul-if3

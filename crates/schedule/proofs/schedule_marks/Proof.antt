@@ -62,11 +62,14 @@ same-length-2 c = search needs
 same-length-3 : tie.Need-same-length-3
 same-length-3 c = search needs
 
+same-length-4 : tie.Need-same-length-4
+same-length-4 c = search needs
+
 returns : tie.Need-returns
 returns c =
-    let a = c .before .before .before .before .before .before .before .before .before .before .before .before .before .before .before .before .before .before .before .before .before .before .before .before .before .before .before .before .before .before .before .args in
-    judged-so (c .before .before .before .before .before .before .before .before .before .before .before .before .before .before .before .before .before .before .before .before .before .before .before .file-forms .ensures) (c .before .before .before .before .before .before .before .before .before .before .before .before .before .before .before .before .before .before .before .before .before .before .field-rows .ensures) (c .before .before .before .before .before .before .before .before .before .before .before .before .before .before .before .before .before .before .before .before .before .field-names .ensures) (c .before .before .before .before .before .before .before .before .before .before .before .before .before .before .before .before .before .before .before .before .file-type .ensures) (c .before .before .before .before .before .before .before .before .before .before .before .before .before .before .before .before .before .before .before .rule-rows .ensures) (c .before .before .before .before .before .before .before .before .before .before .before .before .before .before .before .before .before .before .value-places .ensures) (c .before .before .before .before .before .before .before .before .before .before .before .before .before .before .before .before .before .value-texts .ensures)
-    (a .scope) (standing (now (a .a)) (now (a .b)) (now (a .c)) (now (a .stand))) (length (now (a .work))) (marksIn (now (a .kinds)) (now (a .places))) (now (a .work)) (c .before .before .before .before .before .before .judge-files .ensures)
+    let a = c .before .before .before .before .before .before .before .before .before .before .before .before .before .before .before .before .before .before .before .before .before .before .before .before .before .before .before .before .before .before .before .before .before .before .before .args in
+    judged-so (c .before .before .before .before .before .before .before .before .before .before .before .before .before .before .before .before .before .before .before .before .before .before .before .before .before .before .file-forms .ensures) (c .before .before .before .before .before .before .before .before .before .before .before .before .before .before .before .before .before .before .before .before .before .before .before .before .before .field-rows .ensures) (c .before .before .before .before .before .before .before .before .before .before .before .before .before .before .before .before .before .before .before .before .before .before .before .before .field-names .ensures) (c .before .before .before .before .before .before .before .before .before .before .before .before .before .before .before .before .before .before .before .before .before .before .before .file-type .ensures) (c .before .before .before .before .before .before .before .before .before .before .before .before .before .before .before .before .before .before .before .before .before .before .rule-rows .ensures) (c .before .before .before .before .before .before .before .before .before .before .before .before .before .before .before .before .before .before .before .before .before .value-places .ensures) (c .before .before .before .before .before .before .before .before .before .before .before .before .before .before .before .before .before .before .before .before .value-texts .ensures)
+    (a .scope) (standing (now (a .a)) (now (a .b)) (now (a .c)) (now (a .stand))) (length (now (a .work))) (marksIn (now (a .kinds)) (now (a .places)) (now (a .companions))) (now (a .work)) (c .before .before .before .before .before .before .before .before .judge-files .ensures)
 
 pub schedule-marks-spec : {M : Type 1} → statement M
 schedule-marks-spec =
@@ -90,4 +93,5 @@ schedule-marks-spec =
     same-length
     same-length-2
     same-length-3
+    same-length-4
     returns)

@@ -1,7 +1,8 @@
 -- `table_file::end_of_file` meets its contract: the tests that led to each answer decide the definition.
 use borrow.Author.Needs.{needs}
 use borrow.Author.Tests.{lt-ltb, le-ltb}
-use Rattle.table_file.specs.Table.{endOfFile}
+use Rattle.json_bytes.specs.Reads.{within}
+use Rattle.table_file.specs.Table.{namesRecord, companionOf, endOfFile}
 use Rattle.table_file.proofs.end_of_file.Statement.{statement}
 use Rattle.table_file.proofs.end_of_file.Tie as tie
 
@@ -9,7 +10,7 @@ skip-spaces-requires : tie.Need-skip-spaces-requires
 skip-spaces-requires c κs = search needs
 
 returns : tie.Need-returns
-unfolding endOfFile
+unfolding endOfFile companionOf namesRecord within
 returns c = rw (← (c .before .skip-spaces .ensures), lt-ltb _ _ (c .if1 .taken))
 
 returns-2 : tie.Need-returns-2

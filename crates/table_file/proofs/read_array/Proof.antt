@@ -1,6 +1,8 @@
 -- `table_file::read_array` meets its contract: what stands behind the opening bracket decides; anything but an array is judged.
 use borrow.Author.Needs.{needs}
 use native.Mathlib.Omega.{arith}
+use Rattle.json_bytes.specs.Reads.{within}
+use Rattle.table_file.specs.Table.{namesRecord, companionOf}
 use Rattle.table_file.proofs.Laws.{first-more, first-ends, array-other, array-more, array-ends, array-neither}
 use Rattle.table_file.proofs.read_array.Statement.{statement}
 use Rattle.table_file.proofs.read_array.Tie as tie
@@ -48,6 +50,7 @@ returns-3 : tie.Need-returns-3
 returns-3 c = array-ends _ _ _ _ _ (c .before .before .before .before .before .before .byte-at .ensures) (c .before .before .before .before .before .if1 .left) _ (c .before .before .before .before .first-in .ensures) _ _ (c .before .before .last .given .1) (c .end-of-file .ensures)
 
 returns-4 : tie.Need-returns-4
+unfolding companionOf namesRecord within
 returns-4 c = array-neither _ _ _ _ _ (c .before .before .before .before .before .byte-at .ensures) (c .before .before .before .before .if1 .left) _ (c .before .before .before .first-in .ensures) _ (c .before .place .given .1)
 
 pub read-array-spec : {M : Type 1} → statement M

@@ -4,8 +4,9 @@ use mathlib.Core.Path.{_≡_, refl, _∙_}
 use native.Mathlib.Omega.{arith}
 use Prim.Native.Nat.{_-_}
 use lib.ListN.{length}
+use Rattle.json_bytes.specs.Reads.{within}
 use Rattle.table_rows.specs.Rows.{fieldsFrom}
-use Rattle.table_file.specs.Table.{elementsFrom}
+use Rattle.table_file.specs.Table.{namesRecord, companionOf, elementsFrom}
 use Rattle.table_file.proofs.Laws.{Left, left-all, more-place, ends-place, turn-more, turn-ends, turn-neither, turn-fault}
 use Rattle.table_file.proofs.read_elements.Statement.{statement}
 use Rattle.table_file.proofs.read_elements.Tie as tie
@@ -65,16 +66,23 @@ same-length-2 : tie.Need-same-length-2 Inv-loop μ-loop
 same-length-2 c = c .before .before .before .before .before .before .before .before .before .element-at .kept .1 .1 .1 .1 .1 .0 ∙ c .before .before .before .before .before .before .before .before .before .before .before .loop .inv .0
 
 returns-2 : tie.Need-returns-2 Inv-loop μ-loop
+unfolding companionOf namesRecord within
 returns-2 c = turn-neither _ _ _ _ _ _ _ _ (c .before .before .before .before .before .before .before .before .before .element-at .ensures) (c .before .before .before .before .before .before .before .before .before .before .before .loop .inv .1) _ (c .before .before .before .before .before .end .given .1) _ (c .before .before .before .next-after .ensures) _ (c .before .place .given .1)
 
 enum-known-kind : tie.Need-enum-known-kind Inv-loop μ-loop
 enum-known-kind c = search needs
 
+add-companion-of : tie.Need-add-companion-of Inv-loop μ-loop
+add-companion-of c = omega (arith, c .before .before .before .before .before .before .before .loop .inv .1 .inside, c .before .before .before .before .before .before .before .loop .inv .1 .behind)
+
+companion-of-requires : tie.Need-companion-of-requires Inv-loop μ-loop
+companion-of-requires c κs = search needs
+
 same-length-3 : tie.Need-same-length-3 Inv-loop μ-loop
-same-length-3 c = c .before .before .before .before .before .element-at .kept .1 .1 .1 .1 .1 .0 ∙ c .before .before .before .before .before .before .before .loop .inv .0
+same-length-3 c = c .before .before .before .before .before .before .element-at .kept .1 .1 .1 .1 .1 .0 ∙ c .before .before .before .before .before .before .before .before .loop .inv .0
 
 returns-3 : tie.Need-returns-3 Inv-loop μ-loop
-returns-3 c = turn-fault _ _ _ _ _ _ _ _ (c .before .before .before .before .before .element-at .ensures) (c .before .before .before .before .before .before .before .loop .inv .1) _ _ (c .before .kind .given .1)
+returns-3 c = turn-fault _ _ _ _ _ _ _ _ (c .before .before .before .before .before .before .element-at .ensures) (c .before .before .before .before .before .before .before .before .loop .inv .1) _ _ (c .before .before .kind .given .1) _ (c .companion-of .ensures)
 
 pub read-elements-spec : {M : Type 1} → statement M
 read-elements-spec =
@@ -100,5 +108,7 @@ read-elements-spec =
     same-length-2
     returns-2
     enum-known-kind
+    add-companion-of
+    companion-of-requires
     same-length-3
     returns-3)

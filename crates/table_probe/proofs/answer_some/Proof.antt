@@ -1,4 +1,4 @@
--- `table_probe::answer_some` is safe and ends: each answer uses 32 bytes or more of an output that keeps its length.
+-- `table_probe::answer_some` is safe and ends: each answer uses 40 bytes or more of an output that keeps its length.
 use Prim.Native.Nat.{_-_, _≤_}
 use mathlib.Core.Path.{_≡_, sym}
 use native.Mathlib.Omega.{arith}

@@ -7,8 +7,8 @@ use crate::board::{Board, Mark, MARKS};
 use crate::compare::wire::{read_slice_within, read_word, write_words};
 use crate::gate::Verdict;
 
-/// A board is sent as 81 pairs of 32-bit numbers.
-pub const BOARD_BYTES: usize = 8 * MARKS;
+/// A board is sent as 81 triples of 32-bit numbers: kind, place, companion.
+pub const BOARD_BYTES: usize = 12 * MARKS;
 
 const MOST_MARKS_SHOWN: usize = 10;
 
@@ -116,7 +116,7 @@ impl Answer {
 
 pub(super) fn write_board(out: &mut impl Write, board: &Board) -> io::Result<()> {
     for mark in &board.marks {
-        write_words(out, &[mark.kind, mark.place])?;
+        write_words(out, &[mark.kind, mark.place, mark.companion])?;
     }
     Ok(())
 }
@@ -124,7 +124,11 @@ pub(super) fn write_board(out: &mut impl Write, board: &Board) -> io::Result<()>
 pub(super) fn read_board(input: &mut impl Read) -> io::Result<Board> {
     let mut board = Board::fresh();
     for mark in &mut board.marks {
-        *mark = Mark { kind: read_word(input)?, place: read_word(input)? };
+        *mark = Mark {
+            kind: read_word(input)?,
+            place: read_word(input)?,
+            companion: read_word(input)?,
+        };
     }
     Ok(board)
 }
@@ -148,9 +152,8 @@ fn board_differences(expected: &Board, answered: &Board) -> Vec<String> {
     let mut lines: Vec<String> = pairs
         .filter(|(_, (expected, answered))| expected != answered)
         .map(|(number, (expected, answered))| {
-            let (kind, place) = (expected.kind, expected.place);
-            let (wrong, at) = (answered.kind, answered.place);
-            format!("  mark {number}: expected {kind} at {place}, answered {wrong} at {at}")
+            let (right, wrong) = (shown(expected), shown(answered));
+            format!("  mark {number}: expected {right}, answered {wrong}")
         })
         .collect();
     if lines.len() > MOST_MARKS_SHOWN {
@@ -159,6 +162,11 @@ fn board_differences(expected: &Board, answered: &Board) -> Vec<String> {
         lines.push(format!("  and {more} more marks"));
     }
     lines
+}
+
+fn shown(mark: &Mark) -> String {
+    let Mark { kind, place, companion } = mark;
+    format!("{kind} at {place} with {companion}")
 }
 
 fn byte_difference(expected: &[u8], answered: &[u8]) -> Option<String> {
@@ -173,7 +181,7 @@ mod tests {
 
     fn board() -> Board {
         let mut board = Board::fresh();
-        board.marks[80] = Mark { kind: 1, place: u32::MAX };
+        board.marks[80] = Mark { kind: 1, place: u32::MAX, companion: u32::MAX - 1 };
         board
     }
 
@@ -204,13 +212,20 @@ mod tests {
     #[test]
     fn an_answer_comes_back_from_its_bytes() {
         let judged = Answer::Judged { refusal: 6, board: board() };
-        let lengths = [(judged, 652), (made(b"abcd"), 660), (found(2, b"[]"), 14)];
+        let lengths = [(judged, 976), (made(b"abcd"), 984), (found(2, b"[]"), 14)];
         for (answer, length) in lengths {
             let bytes = answered(&answer);
             assert_eq!(bytes.len(), length);
             assert_eq!(read_back(&answer, &bytes).unwrap(), answer);
             assert!(read_back(&answer, &bytes[..length - 1]).is_err());
         }
+    }
+
+    #[test]
+    fn a_mark_is_kind_place_and_companion() {
+        let bytes = answered(&Answer::Judged { refusal: 6, board: board() });
+        assert_eq!(bytes[..16], [6, 0, 0, 0, 2, 0, 0, 0, 0, 0, 0, 0, 0, 0, 0, 0]);
+        assert_eq!(bytes[964..], [1, 0, 0, 0, 255, 255, 255, 255, 254, 255, 255, 255]);
     }
 
     #[test]
@@ -223,7 +238,8 @@ mod tests {
     fn differences_are_named() {
         assert!(differences(&made(b"abc"), &made(b"abc")).is_empty());
         let mut wrong = board();
-        wrong.marks[79] = Mark { kind: 1, place: 5 };
+        wrong.marks[79] = Mark { kind: 1, place: 5, companion: 4 };
+        wrong.marks[80].companion = 3;
         let wrong = Answer::Made { refusal: 5, length: 3, board: wrong, output: b"abd".to_vec() };
         let lines = differences(&made(b"abc"), &wrong);
         assert_eq!(
@@ -231,7 +247,8 @@ mod tests {
             [
                 "  expected refusal 0 length 3",
                 "  answered refusal 5 length 3",
-                "  mark 79: expected 2 at 0, answered 1 at 5",
+                "  mark 79: expected 2 at 0 with 0, answered 1 at 5 with 4",
+                "  mark 80: expected 1 at 4294967295 with 4294967294, answered 1 at 4294967295 with 3",
                 "  byte 2: expected 63, answered 64",
             ]
         );
@@ -243,7 +260,7 @@ mod tests {
 
     #[test]
     fn only_some_wrong_marks_are_shown() {
-        let all = Board { marks: [Mark { kind: 9, place: 9 }; MARKS] };
+        let all = Board { marks: [Mark { kind: 9, place: 9, companion: 9 }; MARKS] };
         let lines = board_differences(&board(), &all);
         assert_eq!(lines.len(), 11);
         assert_eq!(lines[10], "  and 71 more marks");

@@ -323,7 +323,7 @@ fn answer_part(bundle: &[u8], number: u32) -> Part {
 #[cfg(test)]
 mod tests {
     use super::*;
-    use crate::board::{Mark, MARKS};
+    use crate::board::{Mark, HOLDS, MARKS};
     use crate::compare::gate::sample::Set;
 
     fn bytes(bytes: &[u8]) -> Bytes {
@@ -337,7 +337,7 @@ mod tests {
     fn numbered_board() -> Board {
         let mut board = Board::fresh();
         for (place, mark) in board.marks.iter_mut().enumerate() {
-            *mark = Mark { kind: 7, place: place as u32 };
+            *mark = Mark { kind: 7, place: place as u32, companion: 300 + place as u32 };
         }
         board
     }
@@ -388,8 +388,10 @@ mod tests {
             .collect();
         assert_eq!(words, [2, 166, 5, 1, 3, 9, 250]);
         assert_eq!(bytes[28..28 + 166], small()[..]);
-        assert_eq!(bytes[28 + 166..][..16], [7, 0, 0, 0, 0, 0, 0, 0, 7, 0, 0, 0, 1, 0, 0, 0]);
-        assert_eq!(bytes.len(), 28 + 166 + 8 * MARKS + 3);
+        let board = &bytes[28 + 166..];
+        assert_eq!(board[..12], [7, 0, 0, 0, 0, 0, 0, 0, 44, 1, 0, 0]);
+        assert_eq!(board[12..24], [7, 0, 0, 0, 1, 0, 0, 0, 45, 1, 0, 0]);
+        assert_eq!(bytes.len(), 28 + 166 + 12 * MARKS + 3);
         assert_eq!(&bytes[bytes.len() - 3..], b"abc");
     }
 
@@ -440,7 +442,7 @@ mod tests {
         assert_eq!(output[..169], Set::empty().with(4, " []").with(5, "[]").bundle());
         let pattern = Output { length: 171, seed: 250 }.filled();
         assert_eq!(output[169..], pattern[169..]);
-        assert_eq!(board.marks[4], Mark { kind: 0, place: 0 });
+        assert_eq!(board.marks[4], HOLDS);
         assert_eq!(board.marks[5], numbered_board().marks[5]);
     }
 

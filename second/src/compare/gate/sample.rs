@@ -46,22 +46,23 @@ impl Set {
         verdict.board
     }
 
-    pub fn mark(&self, number: usize) -> (u32, u32) {
-        pair(self.board().marks[number])
+    /// Kind, place and companion.
+    pub fn mark(&self, number: usize) -> (u32, u32, u32) {
+        triple(self.board().marks[number])
     }
 
-    /// The numbers, kinds and places of the marks that don't hold.
-    pub fn faults(&self) -> Vec<(usize, u32, u32)> {
-        self.board().faults().map(|(number, mark)| (number, mark.kind, mark.place)).collect()
+    /// The numbers of the marks that don't hold, and those marks.
+    pub fn faults(&self) -> Vec<(usize, (u32, u32, u32))> {
+        self.board().faults().map(|(number, mark)| (number, triple(mark))).collect()
     }
 }
 
-pub fn pair(mark: Mark) -> (u32, u32) {
-    (mark.kind, mark.place)
+fn triple(mark: Mark) -> (u32, u32, u32) {
+    (mark.kind, mark.place, mark.companion)
 }
 
 /// The mark of one file by itself.
-pub fn file_mark(number: usize, contents: &[u8]) -> (u32, u32) {
+pub fn file_mark(number: usize, contents: &[u8]) -> (u32, u32, u32) {
     Set::empty().with_bytes(number, contents).mark(number)
 }
 

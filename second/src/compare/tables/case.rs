@@ -7,7 +7,7 @@ use super::sights::{self, Sight};
 use crate::board::{Mark, HOLDS};
 use crate::compare::run::{hex, Question};
 use crate::compare::wire::{
-    read_first_word, read_four, read_slice, read_word, unsound, write_four, write_words,
+    read_first_word, read_longs, read_slice, read_word, unsound, write_longs, write_words,
 };
 use crate::fields::fields_of;
 use crate::table::{read_file, Record, MOST_RECORDS};
@@ -33,6 +33,7 @@ pub struct TableCase {
 pub struct TableAnswer {
     pub kind: u64,
     pub place: u64,
+    pub companion: u64,
     pub records: u64,
     pub count: u64,
     pub cells: Vec<u32>,
@@ -43,19 +44,20 @@ impl TableAnswer {
         TableAnswer {
             kind: mark.kind.into(),
             place: mark.place.into(),
+            companion: mark.companion.into(),
             records: records as u64,
             count: cells.len() as u64,
             cells,
         }
     }
 
-    fn head(&self) -> [u64; 4] {
-        [self.kind, self.place, self.records, self.count]
+    fn head(&self) -> [u64; 5] {
+        [self.kind, self.place, self.companion, self.records, self.count]
     }
 
     fn describe(&self) -> String {
-        let [kind, place, records, count] = self.head();
-        format!("kind {kind} place {place} records {records} cells {count}")
+        let [kind, place, companion, records, count] = self.head();
+        format!("kind {kind} place {place} companion {companion} records {records} cells {count}")
     }
 }
 
@@ -97,19 +99,19 @@ impl Question for TableCase {
         }
     }
 
-    /// Four little-endian 64-bit numbers, then the cells, of 32 bits each.
+    /// Five little-endian 64-bit numbers, then the cells, of 32 bits each.
     fn write_answer(answer: &TableAnswer, out: &mut impl Write) -> io::Result<()> {
-        write_four(out, &answer.head())?;
+        write_longs(out, &answer.head())?;
         write_words(out, &answer.cells)
     }
 
     /// Of an answer with more cells than any right one has, no cell is read:
     /// it is wrong by its number of cells alone.
     fn read_answer(&self, input: &mut impl Read) -> Option<TableAnswer> {
-        let [kind, place, records, count] = read_four(input)?;
+        let [kind, place, companion, records, count] = read_longs(input)?;
         let read = if count <= MOST_CELLS { count } else { 0 };
         let cells: Option<Vec<u32>> = (0..read).map(|_| read_word(input).ok()).collect();
-        Some(TableAnswer { kind, place, records, count, cells: cells? })
+        Some(TableAnswer { kind, place, companion, records, count, cells: cells? })
     }
 
     fn describe(&self, expected: &TableAnswer, answered: &TableAnswer) -> String {
@@ -136,7 +138,7 @@ impl Question for TableCase {
     }
 
     fn sights(&self, expected: &TableAnswer) -> Vec<Sight> {
-        sights::sights_of(self, expected.kind, expected.place)
+        sights::sights_of(self, expected)
     }
 }
 
@@ -220,34 +222,43 @@ mod tests {
     fn an_answer_comes_back_from_its_bytes() {
         let case = case(6, r#"[{"ID":"C1","Name":"N","Comments":null}]"#);
         let answer = case.answer();
-        assert_eq!(answer.head(), [0, 0, 1, 6]);
+        assert_eq!(answer.head(), [0, 0, 0, 1, 6]);
         assert_eq!(answer.cells, [7, 11, 19, 22, 34, 0]);
         let bytes = answered(&answer);
-        assert_eq!(bytes.len(), 32 + 6 * 4);
-        assert_eq!(bytes[16..24], [1, 0, 0, 0, 0, 0, 0, 0]);
-        assert_eq!(bytes[32..40], [7, 0, 0, 0, 11, 0, 0, 0]);
+        assert_eq!(bytes.len(), 40 + 6 * 4);
+        assert_eq!(bytes[24..32], [1, 0, 0, 0, 0, 0, 0, 0]);
+        assert_eq!(bytes[40..48], [7, 0, 0, 0, 11, 0, 0, 0]);
         assert_eq!(case.read_answer(&mut &bytes[..]), Some(answer));
         assert_eq!(case.read_answer(&mut &bytes[..bytes.len() - 1]), None);
-        assert_eq!(case.read_answer(&mut &bytes[..31]), None);
+        assert_eq!(case.read_answer(&mut &bytes[..39]), None);
+    }
+
+    #[test]
+    fn the_companion_follows_the_place() {
+        let wrong = case(6, r#"[{"ID":"C1","Name":"N"},{"ID":7}]"#).answer();
+        assert_eq!(wrong.head(), [15, 30, 2, 0, 0]);
+        let bytes = answered(&wrong);
+        assert_eq!(bytes[8..24], [30, 0, 0, 0, 0, 0, 0, 0, 2, 0, 0, 0, 0, 0, 0, 0]);
+        assert_eq!(bytes.len(), 40);
     }
 
     #[test]
     fn an_answer_with_too_many_cells_is_not_read_on() {
         let bytes = answered(&TableAnswer::new(HOLDS, 1, vec![0; 2]));
-        let huge = [&bytes[..24], &u64::MAX.to_le_bytes()[..]].concat();
+        let huge = [&bytes[..32], &u64::MAX.to_le_bytes()[..]].concat();
         let answer = omitted(4).read_answer(&mut &huge[..]).unwrap();
         assert_eq!((answer.count, answer.cells.len()), (u64::MAX, 0));
     }
 
     #[test]
     fn unreadable_and_omitted_files_have_no_cells() {
-        assert_eq!(case(6, "[{}]").answer().head(), [19, 2, 0, 0]);
-        assert_eq!(case(6, "[]").answer().head(), [0, 0, 0, 0]);
-        assert_eq!(case(2, "{}").answer().head(), [0, 0, 1, 16]);
-        assert_eq!(case(0, "IPMDAR_SCHEDULE_PERFORMANCE_DATASET/1.0").answer().head(), [0; 4]);
-        assert_eq!(case(0, "").answer().head(), [22, 0, 0, 0]);
-        assert_eq!(omitted(3).answer().head(), [21, 0, 0, 0]);
-        assert_eq!(omitted(4).answer().head(), [0; 4]);
+        assert_eq!(case(6, "[{}]").answer().head(), [19, 2, 0, 0, 0]);
+        assert_eq!(case(6, "[]").answer().head(), [0, 0, 0, 0, 0]);
+        assert_eq!(case(2, "{}").answer().head(), [0, 0, 0, 1, 16]);
+        assert_eq!(case(0, "IPMDAR_SCHEDULE_PERFORMANCE_DATASET/1.0").answer().head(), [0; 5]);
+        assert_eq!(case(0, "").answer().head(), [22, 0, 0, 0, 0]);
+        assert_eq!(omitted(3).answer().head(), [21, 0, 0, 0, 0]);
+        assert_eq!(omitted(4).answer().head(), [0; 5]);
     }
 
     #[test]
@@ -260,6 +271,7 @@ mod tests {
         assert!(shown.starts_with("file 5\n  bytes (35) 5b7b22"));
         assert!(shown.ends_with("\n  record 1 Value end: expected 13, answered 14"));
         wrong.kind = 11;
-        assert!(case.describe(&expected, &wrong).ends_with("kind 11 place 0 records 1 cells 4"));
+        let described = case.describe(&expected, &wrong);
+        assert!(described.ends_with("kind 11 place 0 companion 0 records 1 cells 4"));
     }
 }

@@ -12,9 +12,23 @@ pub mod case;
 pub mod cases;
 #[cfg(not(serve_only))]
 mod sights;
+#[clippy::msrv = "1.63"]
+pub mod standing;
 
 /// Until order 4 the kind of every broken string rule; no mark has it since.
 pub const GIVEN_NO_MORE: u32 = 16;
+
+/// The kinds whose mark has the number of the record as its companion; all
+/// others of a file have 0 (order 5).
+pub fn names_its_record(kind: u32) -> bool {
+    (13..=18).contains(&kind) || (30..=34).contains(&kind)
+}
+
+/// The kinds of a fault that can stand in a record, or in the place of one. The
+/// others are of a whole file, or of one record too many.
+pub fn stands_in_record(kind: u32) -> bool {
+    (10..=19).contains(&kind) || (30..=34).contains(&kind)
+}
 
 /// The kinds that the mark of that file can have, 0 among them.
 pub fn possible_kinds(number: usize) -> BTreeSet<u32> {

@@ -231,11 +231,11 @@ mod tests {
         folded(&pair.first) == folded(&pair.second)
     }
 
-    fn holds_if(holds: bool, place: usize) -> Mark {
+    fn holds_if(holds: bool, place: usize, companion: usize) -> Mark {
         if holds {
             HOLDS
         } else {
-            broken_at(place)
+            broken_at(place, companion)
         }
     }
 
@@ -253,16 +253,16 @@ mod tests {
             for pair in main_pairs(&id_codes(length)) {
                 let one = is_one(&pair);
                 add_key(&mut cases, 6, &["ID"], &pair);
-                assert_eq!(judged(&mut cases)[22], holds_if(!one, 2));
+                assert_eq!(judged(&mut cases)[22], holds_if(!one, 2, 1));
                 add_key(&mut cases, 19, &["ResourceID", "TaskID"], &pair);
-                assert_eq!(judged(&mut cases)[35], holds_if(!one, 2));
+                assert_eq!(judged(&mut cases)[35], holds_if(!one, 2, 1));
                 let set = linked(&cases, &SHIFTS, &pair.first, &pair.second);
                 let marks = judge(&set.bundle()).board.marks;
-                assert_eq!([marks[49], marks[67]], [holds_if(one, 1); 2]);
+                assert_eq!([marks[49], marks[67]], [holds_if(one, 1, 0); 2]);
                 add_parent(&mut cases, &pair);
                 let marks = judged(&mut cases);
-                assert_eq!([marks[79], marks[80]], [holds_if(one, 2); 2]);
-                assert_eq!(marks[74], holds_if(one, 1));
+                assert_eq!([marks[79], marks[80]], [holds_if(one, 2, 1); 2]);
+                assert_eq!(marks[74], holds_if(one, 1, 0));
             }
         }
     }
@@ -276,7 +276,7 @@ mod tests {
                 let [asking, searched] = in_some_order(&mut cases, &pair);
                 let set = linked(&cases, &link, asking, searched);
                 let board = judge(&set.bundle()).board;
-                assert_eq!(board.marks[mark], holds_if(is_one(&pair), 1), "mark {mark}");
+                assert_eq!(board.marks[mark], holds_if(is_one(&pair), 1, 0), "mark {mark}");
             }
         }
     }
@@ -300,9 +300,9 @@ mod tests {
         let ids: Vec<Vec<u8>> = (0..30).map(|number| quoted(&alike_id(number, 60))).collect();
         add_alike_keys(&mut cases, 9, "ID", &ids);
         let marks = cases.list.drain(..).map(|case| judge(&case.bundle).board.marks[25]);
-        assert_eq!(marks.collect::<Vec<Mark>>(), [HOLDS, broken_at(30), broken_at(30)]);
+        assert_eq!(marks.collect::<Vec<Mark>>(), [HOLDS, broken_at(30, 1), broken_at(30, 29)]);
         add_alike_targets(&mut cases, &SHIFTS, &ids);
         let marks = cases.list.drain(..).map(|case| judge(&case.bundle).board.marks[49]);
-        assert_eq!(marks.collect::<Vec<Mark>>(), [HOLDS, broken_at(30), broken_at(1)]);
+        assert_eq!(marks.collect::<Vec<Mark>>(), [HOLDS, broken_at(30, 0), broken_at(1, 0)]);
     }
 }

@@ -2,6 +2,7 @@
 
 mod breaking;
 mod changes;
+mod companions;
 mod enumerations;
 mod files;
 mod ids;
@@ -41,6 +42,7 @@ pub fn all_cases(seed: u64) -> Vec<GateCase> {
     unread::add(&mut cases);
     white_space::add(&mut cases);
     wrong_characters::add(&mut cases);
+    companions::add(&mut cases);
     mutated::add(&mut cases);
     files::add(&mut cases);
     long::add(&mut cases);
@@ -137,7 +139,8 @@ fn change(board: Board, number: usize, new: Option<Vec<u8>>) -> Change {
     Change { board, number: number as u32, new: new.map(Arc::new) }
 }
 
-/// Marks that need not be those of any set: kinds and places of any size.
+/// Marks that need not be those of any set: kinds, places and companions of any
+/// size.
 fn random_board(random: &mut Random) -> Board {
     let mut board = Board::fresh();
     for mark in &mut board.marks {
@@ -152,10 +155,13 @@ fn random_mark(random: &mut Random) -> Mark {
         1 => u32::MAX,
         _ => random.below(36) as u32,
     };
-    let place = match random.below(4) {
+    Mark { kind, place: random_number(random), companion: random_number(random) }
+}
+
+fn random_number(random: &mut Random) -> u32 {
+    match random.below(4) {
         0 => random.next_number() as u32,
         1 => random.pick(&[0, u32::MAX, 1 << 31]),
         _ => random.below(5000) as u32,
-    };
-    Mark { kind, place }
+    }
 }

@@ -73,33 +73,48 @@ enum Parents {
     OneUp,
     /// Right ones, but for one record.
     OneWrong,
+    /// Right ones, but for the record at this place, which is given another's.
+    WrongAt(usize),
 }
 
 fn add_run(cases: &mut Cases, levels: &[i64]) {
     for parents in [Parents::Right, Parents::Above, Parents::OneUp, Parents::OneWrong] {
-        let given = given_parents(levels, parents, &mut cases.random);
-        let outline = outline_of(levels, &given, &mut cases.random);
         let tasks = tasks_for(levels.len(), &mut cases.random);
-        let set = SetDraft::empty().with_records(15, &outline).with_records(9, &tasks);
-        cases.judge_set(&set);
+        add_outline(cases, levels, parents, &tasks);
     }
+    for at in 0..levels.len() {
+        let tasks = tasks_with_one_other(levels.len(), levels.len());
+        add_outline(cases, levels, Parents::WrongAt(at), &tasks);
+        let tasks = tasks_with_one_other(levels.len(), at);
+        add_outline(cases, levels, Parents::Right, &tasks);
+    }
+}
+
+fn add_outline(cases: &mut Cases, levels: &[i64], parents: Parents, tasks: &[Draft]) {
+    let given = given_parents(levels, parents, &mut cases.random);
+    let outline = outline_of(levels, &given, &mut cases.random);
+    cases.judge_set(&SetDraft::empty().with_records(15, &outline).with_records(9, tasks));
 }
 
 /// For each record the number of the one that is given as its parent.
 fn given_parents(levels: &[i64], parents: Parents, random: &mut Random) -> Vec<Option<usize>> {
     let mut given: Vec<Option<usize>> = (0..levels.len())
         .map(|at| match parents {
-            Parents::Right | Parents::OneWrong => right_parent(levels, at),
+            Parents::WrongAt(wrong) if wrong == at => Some(NO_ROW),
+            Parents::Right | Parents::OneWrong | Parents::WrongAt(_) => right_parent(levels, at),
             Parents::Above => at.checked_sub(1),
             Parents::OneUp => levels[..at].iter().rposition(|level| *level == levels[at] - 1),
         })
         .collect();
     if matches!(parents, Parents::OneWrong) && !levels.is_empty() {
         let at = random.below(levels.len());
-        given[at] = random.pick(&[None, Some(0), Some(at), Some(levels.len() - 1), Some(9)]);
+        given[at] = random.pick(&[None, Some(0), Some(at), Some(levels.len() - 1), Some(NO_ROW)]);
     }
     given
 }
+
+/// The number of no record: the longest run has fewer.
+const NO_ROW: usize = 9;
 
 fn right_parent(levels: &[i64], at: usize) -> Option<usize> {
     if levels[at] == 1 {
@@ -138,6 +153,18 @@ fn tasks_for(count: usize, random: &mut Random) -> Vec<Draft> {
                 0 => random.pick(&[&b"\"ACTIVITY\""[..], b"\"SUMMARY1\"", b"\"HAMMOCK\""]),
                 _ => random.pick(&[&b"\"SUMMARY\""[..], b"\"summary\"", b"\"Summar\\u0079\""]),
             };
+            let task = Draft::default().with_value("ID", &task_id(number));
+            task.with_value("Name", b"\"N\"").with_value("TaskTypeID", kind)
+        })
+        .collect()
+}
+
+/// All are SUMMARY but for the one of that number, if there is one: where it is
+/// a parent, its first child breaks 80.
+fn tasks_with_one_other(count: usize, other: usize) -> Vec<Draft> {
+    (0..count)
+        .map(|number| {
+            let kind: &[u8] = if number == other { b"\"HAMMOCK\"" } else { b"\"SUMMARY\"" };
             let task = Draft::default().with_value("ID", &task_id(number));
             task.with_value("Name", b"\"N\"").with_value("TaskTypeID", kind)
         })

@@ -1,6 +1,7 @@
 //! The cases of the reading of one file: systematic ones, then random mixes.
 
 mod accepted;
+mod companions;
 mod damage;
 mod draft;
 mod kinds;
@@ -29,6 +30,7 @@ pub fn all_cases(seed: u64) -> Vec<TableCase> {
     names::add(&mut cases);
     limits::add(&mut cases);
     wrong_characters::add(&mut cases);
+    companions::add(&mut cases);
     damage::add(&mut cases);
     large::add(&mut cases);
     mixed::add(&mut cases);
