@@ -9,8 +9,8 @@ use native.Mathlib.Omega.{arith}
 use borrow.Author.Tests.{eqb-true, eq-eqb, ne-eqb, lt-ltb, le-ltb}
 use lib.ListN.{length, set, drop}
 use lib.Dec.{eqb, ltb}
-use Rattle.mark_numbers.specs.Marks.{Marks, haveLength, freshMarks}
-use Rattle.mark_numbers.proofs.Laws.{lists-long, lists-wrong, lists-right}
+use Rattle.mark_numbers.specs.Marks.{Marks, haveLength, freshMarks, freshOver}
+use Rattle.mark_numbers.proofs.Laws.{lists-long, lists-wrong, lists-right, fresh-over}
 use Rattle.bundle_layout.specs.Change.{filesAfter}
 use Rattle.bundle.specs.declared.Made.{Made}
 use Rattle.gate_marks.specs.declared.Scope.the-variants.{Change}
@@ -180,11 +180,7 @@ module _ (handed : Marks) where
   unfolding freshFault freshCalled
   fresh-ill e = rw e (refl, refl)
 
-  -- lists of one length, as the call below asks for
-  pub fresh-fits : haveLength 81 handed ≡ true → haveLength (length (handed .kinds)) handed ≡ true
-  fresh-fits e = rw (lists-long 81 handed e .kinds-long) e
-
-  pub fresh-well : haveLength 81 handed ≡ true → {last : Marks} → last ≡ freshMarks (length (handed .kinds)) → Fresh 0 last
+  pub fresh-well : haveLength 81 handed ≡ true → {last : Marks} → last ≡ freshOver handed → Fresh 0 last
   unfolding freshFault freshCalled hasLists
   fresh-well e last-is =
-      rw (marks-are, e) (refl, last-is ∙ ap freshMarks (lists-long 81 handed e .kinds-long))
+      rw (marks-are, e) (refl, last-is ∙ fresh-over handed (rw (lists-long 81 handed e .kinds-long) e) ∙ ap freshMarks (lists-long 81 handed e .kinds-long))

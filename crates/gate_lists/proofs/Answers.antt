@@ -9,8 +9,8 @@ use borrow.Author.Tests.{lt-leb, le-leb, eq-eqb, ne-eqb, eqb-true}
 use lib.ListN.{length, set}
 use lib.Dec.{leb, ltb, eqb}
 use Rattle.parts.specs.Files.{File, newFile}
-use Rattle.mark_numbers.specs.Marks.{Marks, markIn, haveLength, freshMarks}
-use Rattle.mark_numbers.proofs.Laws.{Long, lists-long, long-lists, marks-same}
+use Rattle.mark_numbers.specs.Marks.{Marks, markIn, haveLength, freshMarks, freshOver}
+use Rattle.mark_numbers.proofs.Laws.{Long, lists-long, long-lists, fresh-over, marks-same}
 use Rattle.bundle_layout.specs.Bundle.{bundleFault, fileAt, bundleLength}
 use Rattle.bundle_layout.specs.Change.{filesAfter, tryFault, makeFault, output}
 use Rattle.bundle_layout.proofs.Laws.{try-none, make-none}
@@ -238,11 +238,11 @@ module _ (g : Gate) (s : List ℕ) (handed : Marks) (work : List ℕ) {fault : �
     refusal-by : refusal ≡ cond (eqb fault 0) (bundleFault (g .files) s) fault
     refusal-by = rw n-is at by
 
-    pub judge-fresh : (fault ≡ 100 → ⊥) → (refusal ≡ 0 → ⊥) → {marks : Marks} → marks ≡ freshMarks (length (handed .kinds)) → Judged (record { refusal = refusal; length = 0 }) marks work
+    pub judge-fresh : (fault ≡ 100 → ⊥) → (refusal ≡ 0 → ⊥) → {marks : Marks} → marks ≡ freshOver handed → Judged (record { refusal = refusal; length = 0 }) marks work
     unfolding judgeLeft
     judge-fresh right some {marks} e =
         by-answer refusal 0 marks work
-        (judge-refused g s (length work) handed fault refusal is right refusal-by some ∙ ap (answer refusal 0) (sym (e ∙ ap freshMarks (lists-not-refused g (length work) handed is right .kinds-long))))
+        (judge-refused g s (length work) handed fault refusal is right refusal-by some ∙ ap (answer refusal 0) (sym (e ∙ fresh-over handed (lists-even g (length work) handed is right) ∙ ap freshMarks (lists-not-refused g (length work) handed is right .kinds-long))))
         (work-untouched g Full (fileAt s) work refusal some)
 
     pub judge-full : refusal ≡ 0 → (standing : ℕ → File) → ((i : ℕ) → i < g .files → standing i ≡ fileAt s i) → {marks : Marks} {last : List ℕ}

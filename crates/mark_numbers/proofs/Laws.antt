@@ -13,7 +13,7 @@ use lib.ListN.{length, getD, set, drop, length-set, length-append, drop-of-lengt
 use lib.Seq.{drop-cons, append-snoc, set-at, getD-at, getD-set-same, getD-set-other, ext-getD}
 use lib.Dec.{eqb}
 use Rattle.mark_numbers.specs.declared.Mark.{Mark}
-use Rattle.mark_numbers.specs.Marks.{listOf, Marks, marksIn, marksFrom, markIn, withMark, haveLength, faultsUpTo}
+use Rattle.mark_numbers.specs.Marks.{listOf, Marks, marksIn, marksFrom, markIn, withMark, haveLength, freshMarks, freshOver, faultsUpTo}
 
 -- ---- a list by what stands at each place
 module _ (f : ℕ → ℕ) where
@@ -112,6 +112,16 @@ module _ (n : ℕ) (b : Marks) where
 
     pub lists-right : not t ≡ false → haveLength n b ≡ true
     lists-right e = sym t-is ∙ not-false t e
+
+-- every mark made 'not judged', and lists of different lengths left alone
+module _ (b : Marks) where
+  pub fresh-over : haveLength (length (b .kinds)) b ≡ true → freshOver b ≡ freshMarks (length (b .kinds))
+  unfolding freshOver
+  fresh-over e = rw e
+
+  pub fresh-kept : haveLength (length (b .kinds)) b ≡ false → freshOver b ≡ b
+  unfolding freshOver
+  fresh-kept e = rw e
 
 module _ (n : ℕ) where
   pub marks-same : (f g : ℕ → Mark) → ((m : ℕ) → m < n → f m ≡ g m) → marksFrom n f ≡ marksFrom n g

@@ -50,6 +50,10 @@ notJudged = record { kind = 2; place = 0; companion = 0 }
 unfoldable pub freshMarks : ℕ → Marks
 freshMarks n = marksFrom n (λ m. notJudged)
 
+-- the same over lists, where they are of one length; others as they were
+unfoldable pub freshOver : Marks → Marks
+freshOver marks = cond (haveLength (length (marks .kinds)) marks) (freshMarks (length (marks .kinds))) marks
+
 -- how many of the first m marks don't hold; "The set is accepted if all .. hold."
 unfoldable pub faultsUpTo : List ℕ → ℕ → ℕ
 faultsUpTo kinds zero = 0

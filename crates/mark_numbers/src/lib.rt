@@ -3,7 +3,7 @@
 ghost use mathlib.Core.Path.{_≡_};
 ghost use mathlib.Core.Bool.{true};
 ghost use lib.ListN.{length, getD, set};
-ghost use Rattle.mark_numbers.specs.Marks.{marksIn, markIn, withMark, haveLength, freshMarks, faultsIn};
+ghost use Rattle.mark_numbers.specs.Marks.{marksIn, markIn, withMark, haveLength, freshMarks, freshOver, faultsIn};
 
 // Kind 0, place 0, companion 0: it holds. Any other kind says what is wrong, the place where, and the
 // companion which record goes with it, 0 for none.
@@ -88,8 +88,8 @@ pub fn have_length(n: usize, kinds: &[u32], places: &[usize], companions: &[usiz
     companions.len() == n
 }
 
-// Makes every mark 'not judged', in lists of one length.
-pub fn make_fresh(kinds: &mut [u32], places: &mut [usize], companions: &mut [usize])
+// Puts 'not judged' for every mark of lists that are of one length.
+fn fill_fresh(kinds: &mut [u32], places: &mut [usize], companions: &mut [usize])
     requires { ⌜ haveLength (length (now kinds)) (marksIn (now kinds) (now places) (now companions)) ≡ true ⌝ }
     ensures { λ _. ⌜ marksIn (now (kinds .exit)) (now (places .exit)) (now (companions .exit)) ≡ freshMarks (length (now (kinds .entry))) ⌝ }
 {
@@ -102,6 +102,16 @@ pub fn make_fresh(kinds: &mut [u32], places: &mut [usize], companions: &mut [usi
     while m < kinds.len() {
         put_mark(m, fresh, kinds, places, companions);
         m += 1;
+    }
+}
+
+// Makes every mark 'not judged'; lists of different lengths stay as they are.
+pub fn make_fresh(kinds: &mut [u32], places: &mut [usize], companions: &mut [usize])
+    ensures { λ _. ⌜ marksIn (now (kinds .exit)) (now (places .exit)) (now (companions .exit)) ≡ freshOver (marksIn (now (kinds .entry)) (now (places .entry)) (now (companions .entry))) ⌝ }
+{
+    let n = kinds.len();
+    if have_length(n, kinds, places, companions) {
+        fill_fresh(kinds, places, companions);
     }
 }
 

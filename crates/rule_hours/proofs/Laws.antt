@@ -99,12 +99,12 @@ module _ (test : ℕ → Bool) (from to : ℕ) where
       ]
 
 -- ---- what the rules come to
-other-than-below : (g : Sign) → (g ≡ Below → ⊥) → belowZero g ≡ false
+pub other-than-below : (g : Sign) → (g ≡ Below → ⊥) → belowZero g ≡ false
 other-than-below Below h = absurd (h refl)
 other-than-below Zero h = refl
 other-than-below Above h = refl
 
-is-above : (g : Sign) → aboveZero g ≡ true → g ≡ Above
+pub is-above : (g : Sign) → aboveZero g ≡ true → g ≡ Above
 is-above Above e = refl
 is-above Zero e = absurd (clash false e refl)
 is-above Below e = absurd (clash false e refl)

@@ -78,14 +78,14 @@ unfoldable pub Distinct : Table → Key → Type 0
 Distinct t key = (i j : ℕ) → i < j → j < t .records → sameKey t key i j ≡ false
 
 module _ (t : Table) (key : Key) where
-  -- a record that repeats none has no earlier one's key
-  repeats-none : (i : ℕ) → repeats t key i ≡ false → (j : ℕ) → j < i → sameKey t key j i ≡ false
+  -- a record repeats none exactly if it has no earlier one's key
+  pub repeats-none : (i : ℕ) → repeats t key i ≡ false → (j : ℕ) → j < i → sameKey t key j i ≡ false
   unfolding repeats earliest
   repeats-none i e =
       let z : earliest t key i ≤ 0 = ltb-false 0 (earliest t key i) e in
       first-none (λ (x : ℕ). sameKey t key x i) i (omega arith)
 
-  none-repeats : (i : ℕ) → ((j : ℕ) → j < i → sameKey t key j i ≡ false) → repeats t key i ≡ false
+  pub none-repeats : (i : ℕ) → ((j : ℕ) → j < i → sameKey t key j i ≡ false) → repeats t key i ≡ false
   unfolding repeats earliest
   none-repeats i h = rw (none-first (λ (x : ℕ). sameKey t key x i) i h)
 

@@ -2,3 +2,5 @@ pub mod Answers
 pub mod Values
 pub mod Levels
 pub mod Parents
+pub mod Runs
+pub mod Rules

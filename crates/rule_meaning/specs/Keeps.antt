@@ -3,18 +3,28 @@
 use Prim.Native.Nat.{ℕ, _+_, _≤_, _<_}
 use mathlib.Core.Path.{_≡_}
 use mathlib.Core.Bool.{true, false}
-use mathlib.Core.Logic.{_↔_}
+use mathlib.Core.Logic.{_↔_, _⊎_}
 use mathlib.Core.List.{List}
 use Rattle.json_number.specs.declared.Integer.the-variants.{Is}
-use Rattle.rule_cells.specs.Cells.{Table, isGiven, sameText, isWord, integerIn}
+use Rattle.json_number.specs.declared.Sign.the-variants.{Above, Below}
+use Rattle.table_rows.specs.Rows.{valueTextAt}
+use Rattle.rule_cells.specs.Cells.{Table, isGiven, sameText, isWord, integerIn, signIn}
 use Rattle.rule_when.specs.When.{isValue, holdsWhen}
 use Rattle.rule_when.specs.declared.When.{When}
+use Rattle.rule_key.specs.Key.{sameKey}
+use Rattle.rule_key.specs.declared.Key.{Key}
 use Rattle.rule_outline.specs.Outline.{parentOf}
+use Rattle.rule_shape.specs.declared.Rule.{Rule}
+use Rattle.rule_shape.specs.declared.Rule.the-variants.{KeyOf, OneOf, NullUnless, GivenIf, GivenUnless, NoneBelow, SomeAbove, Together, LevelRun, ParentGiven, TargetIn, ParentIs, EachHas}
 
 -- ---- "Kind 1: broken, place the first breaking record", of n records
 pub record Answers (Keeps : ℕ → Type 0) (n answer : ℕ) : Type 0 where
   pub holds : (answer ≡ 0) ↔ ((r : ℕ) → r < n → Keeps r)
   pub breaks : (r : ℕ) → (answer ≡ r + 1) ↔ ((r < n) × (Keeps r → ⊥) × ((j : ℕ) → j < r → Keeps j))
+
+-- ---- The key of a record: marks 20 to 35, "Broken at a record whose key equals an earlier one's."
+abbrev pub HasItsOwnKey : Table → Key → ℕ → Type 0
+HasItsOwnKey t key r = (j : ℕ) → j < r → sameKey t key j r ≡ true → ⊥
 
 -- ---- One field of a record
 -- field k holds a value: it is not absent, null or empty
@@ -46,6 +56,20 @@ abbrev pub HasItsTarget : Table → ℕ → When → Table → ℕ → List ℕ 
 HasItsTarget t k w u m places texts r =
     Given t k r → Meets t w places texts r → (q : ℕ) × (q < u .records) × (sameText t r k u q m ≡ true)
 
+-- ---- The fields of a run, from one on and up to another, which is no part of it
+-- marks 68 and 70: "no hours below zero"
+abbrev pub NoneIsBelow : Table → ℕ → ℕ → ℕ → Type 0
+NoneIsBelow t from to r = (k : ℕ) → from ≤ k → k < to → signIn t r k ≡ Below → ⊥
+
+-- mark 69: "some hours above zero; null is 0"
+abbrev pub SomeIsAbove : Table → ℕ → ℕ → ℕ → Type 0
+SomeIsAbove t from to r = (k : ℕ) × (from ≤ k) × (k < to) × (signIn t r k ≡ Above)
+
+-- mark 75: "all null or none"
+abbrev pub AllNullOrNone : Table → ℕ → ℕ → ℕ → Type 0
+AllNullOrNone t from to r =
+    ((k : ℕ) → from ≤ k → k < to → Given t k r → ⊥) ⊎ ((k : ℕ) → from ≤ k → k < to → Given t k r)
+
 -- ---- The outline
 -- the Level of record r is the whole number l
 abbrev pub HasLevel : Table → ℕ → ℕ → ℕ → Type 0
@@ -70,3 +94,21 @@ pub record HasItsParent (t : Table) (level task parent r : ℕ) : Type 0 where
 abbrev pub ParentIsTyped : Table → ℕ → ℕ → Table → ℕ → ℕ → List ℕ → ℕ → Type 0
 ParentIsTyped t level task u id type word r =
     (HasLevel t level r 1 → ⊥) → (q : ℕ) → parentOf t level r ≡ q + 1 → (x : ℕ) × (x < u .records) × (sameText t q task u x id ≡ true) × (isWord u x type word ≡ true)
+
+-- ---- Any rule, by its shape: what it asks of record r of the table t that it judges, beside the table u that it looks into, with
+-- the places and the texts of the enumeration values
+abbrev pub Keeps : List ℕ → List ℕ → Rule → Table → Table → ℕ → Type 0
+Keeps places texts (KeyOf file key) t u r = HasItsOwnKey t key r
+Keeps places texts (OneOf file field first count) t u r = HasItsValue t field first count places texts r
+Keeps places texts (NullUnless file field when) t u r = IsNullUnless t field when places texts r
+Keeps places texts (GivenIf file field when) t u r = IsGivenIf t field when places texts r
+Keeps places texts (GivenUnless file field when) t u r = IsGivenUnless t field when places texts r
+Keeps places texts (NoneBelow file from to) t u r = NoneIsBelow t from to r
+Keeps places texts (SomeAbove file from to) t u r = SomeIsAbove t from to r
+Keeps places texts (Together file from to) t u r = AllNullOrNone t from to r
+Keeps places texts (LevelRun file level) t u r = KeepsRun t level r
+Keeps places texts (ParentGiven file parent level id) t u r = HasItsParent t level id parent r
+Keeps places texts (TargetIn file field when other id) t u r = HasItsTarget t field when u id places texts r
+Keeps places texts (ParentIs file parent level id other otherID otherType value) t u r =
+    ParentIsTyped t level id u otherID otherType (valueTextAt places texts value) r
+Keeps places texts (EachHas file field when other id) t u r = HasItsTarget t field when u id places texts r

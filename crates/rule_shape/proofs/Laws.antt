@@ -9,40 +9,40 @@ use lib.ListN.{length, getD, replicate, length-append, List·getD-eq-default, Li
 use lib.Seq.{getD-append-add}
 use Rattle.table_rows.specs.Rows.{cellAt}
 use Rattle.rule_shape.specs.declared.Rule.{Rule}
-use Rattle.rule_shape.specs.declared.Rule.the-variants.{KeyOf, OneOf, NullUnless, GivenIf, GivenUnless, NoneBelow, SomeAbove, Together, LevelRun, ParentGiven, TargetIn, ParentIs}
-use Rattle.rule_shape.specs.Rule.{firstOf, secondOf, rowOf, shapesOf, ruleOf, ruleFrom, rulesFrom, rulesIn}
+use Rattle.rule_shape.specs.declared.Rule.the-variants.{KeyOf, OneOf, NullUnless, GivenIf, GivenUnless, NoneBelow, SomeAbove, Together, LevelRun, ParentGiven, TargetIn, ParentIs, EachHas}
+use Rattle.rule_shape.specs.Rule.{condition, firstOf, secondOf, rowOf, shapesOf, ruleOf, ruleFrom, rulesFrom, rulesIn}
 
--- ---- The files of a row. In a list that holds one number m times, then another, and that other past its end:
-front : (m n a b : ℕ) → n < m → getD (replicate m a ++ (b ∷ [])) n b ≡ a
-front zero n a b h = absurd (not-suc-le-zero h)
-front (suc m) zero a b h = refl
-front (suc m) (suc n) a b h = front m n a b (omega arith)
-
-behind : (m n a b : ℕ) → m ≤ n → getD (replicate m a ++ (b ∷ [])) n b ≡ b
-behind zero zero a b h = refl
-behind zero (suc n) a b h = refl
-behind (suc m) zero a b h = absurd (not-suc-le-zero h)
-behind (suc m) (suc n) a b h = behind m n a b (omega arith)
-
+-- ---- The files of a row. In a list that holds one number and that number past its end:
 alike : (m n a : ℕ) → getD (replicate m a) n a ≡ a
 alike zero n a = refl
 alike (suc m) zero a = refl
 alike (suc m) (suc n) a = alike m n a
 
+-- in one that holds a number m times, then another k times, and that other past its end:
+front : (m k n a b : ℕ) → n < m → getD (replicate m a ++ replicate k b) n b ≡ a
+front zero k n a b h = absurd (not-suc-le-zero h)
+front (suc m) k zero a b h = refl
+front (suc m) k (suc n) a b h = front m k n a b (omega arith)
+
+behind : (m k n a b : ℕ) → m ≤ n → getD (replicate m a ++ replicate k b) n b ≡ b
+behind zero k n a b h = alike k n b
+behind (suc m) k zero a b h = absurd (not-suc-le-zero h)
+behind (suc m) k (suc n) a b h = behind m k n a b (omega arith)
+
 -- the first file is the row's second number; a shape from 10 on looks into the file that is its third
 module _ (shape file other field a b c d e : ℕ) where
   first-of : firstOf (ruleOf shape file other field a b c d e) ≡ file
   unfolding ruleOf shapesOf firstOf
-  first-of = sym (List·getD-map firstOf (shapesOf file other field a b c d e) shape (ParentIs file field a b other c d e)) ∙ alike 11 shape file
+  first-of = sym (List·getD-map firstOf (shapesOf file other field a b c d e) shape (EachHas file field (condition a b c d) other e)) ∙ alike 12 shape file
 
-  second-of : secondOf (ruleOf shape file other field a b c d e) ≡ getD (replicate 10 file ++ (other ∷ [])) shape other
+  second-of : secondOf (ruleOf shape file other field a b c d e) ≡ getD (replicate 10 file ++ replicate 2 other) shape other
   unfolding ruleOf shapesOf secondOf
-  second-of = sym (List·getD-map secondOf (shapesOf file other field a b c d e) shape (ParentIs file field a b other c d e))
+  second-of = sym (List·getD-map secondOf (shapesOf file other field a b c d e) shape (EachHas file field (condition a b c d) other e))
 
   -- and any shape past the others is the last
-  pub last-shape : 11 ≤ shape → ruleOf shape file other field a b c d e ≡ ParentIs file field a b other c d e
+  pub last-shape : 12 ≤ shape → ruleOf shape file other field a b c d e ≡ EachHas file field (condition a b c d) other e
   unfolding ruleOf shapesOf
-  last-shape h = List·getD-eq-default (shapesOf file other field a b c d e) (ParentIs file field a b other c d e) h
+  last-shape h = List·getD-eq-default (shapesOf file other field a b c d e) (EachHas file field (condition a b c d) other e) h
 
 module _ (rows : List ℕ) (i : ℕ) where
   pub first-is : firstOf (ruleFrom rows i) ≡ cellAt rows 9 i 1
@@ -51,11 +51,11 @@ module _ (rows : List ℕ) (i : ℕ) where
 
   pub second-own : cellAt rows 9 i 0 < 10 → secondOf (ruleFrom rows i) ≡ cellAt rows 9 i 1
   unfolding ruleFrom
-  second-own h = second-of _ _ _ _ _ _ _ _ _ ∙ front 10 _ _ _ h
+  second-own h = second-of _ _ _ _ _ _ _ _ _ ∙ front 10 2 _ _ _ h
 
   pub second-other : 10 ≤ cellAt rows 9 i 0 → secondOf (ruleFrom rows i) ≡ cellAt rows 9 i 2
   unfolding ruleFrom
-  second-other h = second-of _ _ _ _ _ _ _ _ _ ∙ behind 10 _ _ _ h
+  second-other h = second-of _ _ _ _ _ _ _ _ _ ∙ behind 10 2 _ _ _ h
 
 -- ---- The rules of any rows: as many as there are rows, each the rule of its row
 module _ (rows : List ℕ) where
@@ -93,6 +93,7 @@ row-length (LevelRun file level) = refl
 row-length (ParentGiven file parent level id) = refl
 row-length (TargetIn file field when other id) = refl
 row-length (ParentIs file parent level id other otherID otherType value) = refl
+row-length (EachHas file field when other id) = refl
 
 row-first : (r : Rule) (rest : List ℕ) → ruleFrom (rowOf r ++ rest) 0 ≡ r
 unfolding ruleFrom ruleOf shapesOf rowOf cellAt
@@ -108,6 +109,7 @@ row-first (LevelRun file level) rest = refl
 row-first (ParentGiven file parent level id) rest = refl
 row-first (TargetIn file field when other id) rest = refl
 row-first (ParentIs file parent level id other otherID otherType value) rest = refl
+row-first (EachHas file field when other id) rest = refl
 
 pub row-back : (r : Rule) → ruleFrom (rowOf r) 0 ≡ r
 row-back r = rw append-nil at (row-first r [])

@@ -9,7 +9,7 @@ use Rattle.table_rows.specs.Rows.{cellAt}
 use Rattle.rule_key.specs.declared.Key.{Key}
 use Rattle.rule_when.specs.declared.When.{When}
 use Rattle.rule_shape.specs.declared.Rule.{Rule}
-use Rattle.rule_shape.specs.declared.Rule.the-variants.{KeyOf, OneOf, NullUnless, GivenIf, GivenUnless, NoneBelow, SomeAbove, Together, LevelRun, ParentGiven, TargetIn, ParentIs}
+use Rattle.rule_shape.specs.declared.Rule.the-variants.{KeyOf, OneOf, NullUnless, GivenIf, GivenUnless, NoneBelow, SomeAbove, Together, LevelRun, ParentGiven, TargetIn, ParentIs, EachHas}
 
 -- ---- What a rule reads. "place the first breaking record of the table named first": the file whose records it judges
 unfoldable pub firstOf : Rule → ℕ
@@ -25,6 +25,7 @@ firstOf (LevelRun file level) = file
 firstOf (ParentGiven file parent level id) = file
 firstOf (TargetIn file field when other id) = file
 firstOf (ParentIs file parent level id other otherID otherType value) = file
+firstOf (EachHas file field when other id) = file
 
 -- the file it looks into; a rule that looks into no other looks into its own
 unfoldable pub secondOf : Rule → ℕ
@@ -40,6 +41,7 @@ secondOf (LevelRun file level) = file
 secondOf (ParentGiven file parent level id) = file
 secondOf (TargetIn file field when other id) = other
 secondOf (ParentIs file parent level id other otherID otherType value) = other
+secondOf (EachHas file field when other id) = other
 
 -- "A rule reads only the files named in its line."
 unfoldable pub reads : Rule → ℕ → Bool
@@ -65,6 +67,8 @@ rowOf (TargetIn file field when other id) =
     10 ∷ file ∷ other ∷ field ∷ when .kind ∷ when .field ∷ when .first ∷ when .second ∷ id ∷ []
 rowOf (ParentIs file parent level id other otherID otherType value) =
     11 ∷ file ∷ other ∷ parent ∷ level ∷ id ∷ otherID ∷ otherType ∷ value ∷ []
+rowOf (EachHas file field when other id) =
+    12 ∷ file ∷ other ∷ field ∷ when .kind ∷ when .field ∷ when .first ∷ when .second ∷ id ∷ []
 
 -- ---- Read back
 abbrev pub key : ℕ → ℕ → ℕ → ℕ → ℕ → ℕ → Key
@@ -87,12 +91,13 @@ shapesOf file other field a b c d e =
     ∷ LevelRun file field
     ∷ ParentGiven file field a b
     ∷ TargetIn file field (condition a b c d) other e
+    ∷ ParentIs file field a b other c d e
     ∷ []
 
 -- the rule of a row: any shape past these is the last
 unfoldable pub ruleOf : ℕ → ℕ → ℕ → ℕ → ℕ → ℕ → ℕ → ℕ → ℕ → Rule
 ruleOf shape file other field a b c d e =
-    getD (shapesOf file other field a b c d e) shape (ParentIs file field a b other c d e)
+    getD (shapesOf file other field a b c d e) shape (EachHas file field (condition a b c d) other e)
 
 -- rule i of any rows
 unfoldable pub ruleFrom : List ℕ → ℕ → Rule

@@ -74,8 +74,8 @@ pub enum Rule {
         level: usize,
         id: usize,
     },
-    // 48–64, "targets", and 67, 73, 74: where the record meets the condition, some record of the
-    // other file has the field's value as its `id`; "Null holds."
+    // 48–64, "targets": where the record meets the condition, some record of the other file has the
+    // field's value as its `id`; "Null holds."
     TargetIn {
         file: usize,
         field: usize,
@@ -94,6 +94,15 @@ pub enum Rule {
         other_id: usize,
         other_type: usize,
         value: usize,
+    },
+    // 67, 73, 74: "each calendar has a workshift" and the like. It asks what `TargetIn` does, but of the
+    // record that something must stand for, so it is no missing target where it breaks.
+    EachHas {
+        file: usize,
+        field: usize,
+        when: When,
+        other: usize,
+        id: usize,
     },
 }
 
@@ -207,7 +216,7 @@ fn rule_of(
             other,
             id: e as usize,
         },
-        _ => Rule::ParentIs {
+        11 => Rule::ParentIs {
             file,
             parent: field,
             level: a as usize,
@@ -216,6 +225,13 @@ fn rule_of(
             other_id: c as usize,
             other_type: d as usize,
             value: e as usize,
+        },
+        _ => Rule::EachHas {
+            file,
+            field,
+            when,
+            other,
+            id: e as usize,
         },
     }
 }

@@ -20,18 +20,18 @@ use Rattle.rule_key.proofs.Laws.{Repeat, breaks-repeat}
 use Rattle.rule_outline.specs.Outline.{levelOne, levelOf, parentBy, parentOf, parentShown, outlineAt, parentRule, parentTypeRule}
 use Rattle.rule_outline.proofs.Parents.{IsParent, parent-is-nearest, nearest-is-parent}
 use Rattle.rule_shape.specs.declared.Rule.{Rule}
-use Rattle.rule_shape.specs.declared.Rule.the-variants.{KeyOf, OneOf, NullUnless, GivenIf, GivenUnless, NoneBelow, SomeAbove, Together, LevelRun, ParentGiven, TargetIn, ParentIs}
+use Rattle.rule_shape.specs.declared.Rule.the-variants.{KeyOf, OneOf, NullUnless, GivenIf, GivenUnless, NoneBelow, SomeAbove, Together, LevelRun, ParentGiven, TargetIn, ParentIs, EachHas}
 use Rattle.rules.specs.declared.Break.{Break}
 use Rattle.rules.specs.Judge.{alone, ofOutline, parentBreak, ruleBreak, markOf}
 
 -- ---- A mark of kind 1 is what the rule found
-record Broken (m : Mark) (b : Break) : Type 0 where
+pub record Broken (m : Mark) (b : Break) : Type 0 where
   pub some : b .«record» ≡ 0 → ⊥
   pub place-is : m .place ≡ b .«record»
   pub companion-is : m .companion ≡ b .other
 
 module _ (judged : Bool) (b : Break) where
-  broken : markOf judged b .kind ≡ 1 → Broken (markOf judged b) b
+  pub broken : markOf judged b .kind ≡ 1 → Broken (markOf judged b) b
   unfolding markOf
   broken = go judged (eqb (b .«record») 0) refl
     where
@@ -121,6 +121,7 @@ namesCompanion (LevelRun file level) = false
 namesCompanion (ParentGiven file parent level id) = true
 namesCompanion (TargetIn file field when other id) = false
 namesCompanion (ParentIs file parent level id other otherID otherType value) = true
+namesCompanion (EachHas file field when other id) = false
 
 module _ (judged : Bool) (places texts : List ℕ) (t u : Table) where
   abbrev markBy : Rule → Mark
@@ -169,3 +170,4 @@ module _ (judged : Bool) (places texts : List ℕ) (t u : Table) where
       alone-so (ParentGiven file parent level id) e = absurd (true≢false e)
       alone-so (TargetIn file field when other id) e = by-alone judged _
       alone-so (ParentIs file parent level id other otherID otherType value) e = absurd (true≢false e)
+      alone-so (EachHas file field when other id) e = by-alone judged _

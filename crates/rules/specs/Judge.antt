@@ -16,7 +16,7 @@ use Rattle.rule_hours.specs.Hours.{noneBelow, someAbove, together}
 use Rattle.rule_outline.specs.Outline.{levelRule, parentRule, parentTypeRule, parentOf}
 use Rattle.rule_outline.specs.declared.Outline.{Outline}
 use Rattle.rule_shape.specs.declared.Rule.{Rule}
-use Rattle.rule_shape.specs.declared.Rule.the-variants.{KeyOf, OneOf, NullUnless, GivenIf, GivenUnless, NoneBelow, SomeAbove, Together, LevelRun, ParentGiven, TargetIn, ParentIs}
+use Rattle.rule_shape.specs.declared.Rule.the-variants.{KeyOf, OneOf, NullUnless, GivenIf, GivenUnless, NoneBelow, SomeAbove, Together, LevelRun, ParentGiven, TargetIn, ParentIs, EachHas}
 use Rattle.rules.specs.declared.Break.{Break}
 use Rattle.mark_numbers.specs.declared.Mark.{Mark}
 use Rattle.mark_numbers.specs.Marks.{holds, notJudged}
@@ -53,8 +53,9 @@ ruleBreak places texts (Together file from to) t u = alone (together (t .cells) 
 ruleBreak places texts (LevelRun file level) t u = alone (levelRule t level)
 -- 79: "the TaskID of its parent, the nearest earlier record of lower Level"
 ruleBreak places texts (ParentGiven file parent level id) t u = parentBreak t (parentRule t level id parent (parentOf t level))
--- 48–64, 67, 73 and 74: "Broken at a record exactly if no target record has that ID."
+-- 48–64: "Broken at a record exactly if no target record has that ID."; 67, 73 and 74 ask the same
 ruleBreak places texts (TargetIn file field when other id) t u = alone (targetRule t field when u id places texts)
+ruleBreak places texts (EachHas file field when other id) t u = alone (targetRule t field when u id places texts)
 -- 80: "some task with the parent's TaskID is SUMMARY"
 ruleBreak places texts (ParentIs file parent level id other otherID otherType value) t u =
     parentBreak t (parentTypeRule t level id (parentOf t level) u otherID otherType (valueTextAt places texts value))

@@ -3,6 +3,7 @@ ghost use mathlib.Core.Path.{_≡_};
 ghost use Rattle.rule_cells.specs.Cells.{table};
 ghost use Rattle.rule_outline.specs.Outline.{parentRule, parentTypeRule, parentOf};
 ghost use Rattle.rule_shape.specs.Rule.{ruleFrom};
+ghost use Rattle.rule_target.specs.Target.{targetRule};
 ghost use Rattle.rules.specs.Judge.{alone, ofKey, ofOutline, parentBreak, ruleBreak, isJudged, markOf};
 use mark_numbers::Mark;
 use parts::part;
@@ -22,6 +23,7 @@ use rule_target::Target;
 use rule_target::target_rule;
 use rule_value::FieldRule;
 use rule_value::field_rule;
+use rule_when::When;
 use table_rows::value_end;
 use table_rows::value_start;
 
@@ -115,6 +117,45 @@ fn parent_type_break(
     alone(0)
 }
 
+// The rule of marks 48–64, and of 67, 73 and 74: a value, in a record that meets the condition, that no
+// record of `u` has as its `id`.
+fn target_break(
+    s: &[u8],
+    cells: &[u32],
+    width: usize,
+    records: usize,
+    field: usize,
+    when: When,
+    u: &[u8],
+    u_cells: &[u32],
+    u_width: usize,
+    u_records: usize,
+    id: usize,
+    places: &[u32],
+    texts: &[u8],
+) -> Break
+    ensures { λ r. ⌜ r ≡ alone (targetRule (table (now (s .entry)) (now (cells .entry)) width records) field when (table (now (u .entry)) (now («u_cells» .entry)) «u_width» «u_records») id (now (places .entry)) (now (texts .entry))) ⌝ }
+{
+    let asked = Target {
+        k: field,
+        when,
+        m: id,
+    };
+    alone(target_rule(
+        s,
+        cells,
+        width,
+        records,
+        asked,
+        u,
+        u_cells,
+        u_width,
+        u_records,
+        places,
+        texts,
+    ))
+}
+
 // Rule i of the rows over the table that it judges and the table `u` that it looks into.
 pub fn rule_break(
     rows: &[u32],
@@ -174,26 +215,21 @@ pub fn rule_break(
             when,
             id,
             ..
-        } => {
-            let asked = Target {
-                k: field,
-                when,
-                m: id,
-            };
-            alone(target_rule(
-                s,
-                cells,
-                width,
-                records,
-                asked,
-                u,
-                u_cells,
-                u_width,
-                u_records,
-                places,
-                texts,
-            ))
-        }
+        } => target_break(
+            s,
+            cells,
+            width,
+            records,
+            field,
+            when,
+            u,
+            u_cells,
+            u_width,
+            u_records,
+            id,
+            places,
+            texts,
+        ),
         Rule::ParentIs {
             level,
             id,
@@ -219,6 +255,26 @@ pub fn rule_break(
                 word,
             )
         }
+        Rule::EachHas {
+            field,
+            when,
+            id,
+            ..
+        } => target_break(
+            s,
+            cells,
+            width,
+            records,
+            field,
+            when,
+            u,
+            u_cells,
+            u_width,
+            u_records,
+            id,
+            places,
+            texts,
+        ),
     }
 }
 

@@ -11,7 +11,7 @@ use Rattle.table_fields.specs.Flat.{firstValue}
 use Rattle.table_rows.proofs.Laws.{all}
 use Rattle.rule_when.specs.declared.When.{When}
 use Rattle.rule_shape.specs.declared.Rule.{Rule}
-use Rattle.rule_shape.specs.declared.Rule.the-variants.{KeyOf, OneOf, NullUnless, GivenIf, GivenUnless, NoneBelow, SomeAbove, Together, LevelRun, ParentGiven, TargetIn, ParentIs}
+use Rattle.rule_shape.specs.declared.Rule.the-variants.{KeyOf, OneOf, NullUnless, GivenIf, GivenUnless, NoneBelow, SomeAbove, Together, LevelRun, ParentGiven, TargetIn, ParentIs, EachHas}
 use Rattle.rule_shape.specs.Rule.{firstOf, secondOf, rulesIn}
 use Rattle.rule_shape.proofs.Laws.{rows-back}
 use Rattle.schedule_rules.specs.Rules.{rules, ruleRows}
@@ -65,6 +65,7 @@ isNamed (ParentGiven file parent level id) = areFields file (parent ∷ level �
 isNamed (TargetIn file field when other id) = areFields file (field ∷ []) && (isCondition file when && areFields other (id ∷ []))
 isNamed (ParentIs file parent level id other otherID otherType value) =
     areFields file (parent ∷ level ∷ id ∷ []) && (areFields other (otherID ∷ otherType ∷ []) && areValues (value ∷ []))
+isNamed (EachHas file field when other id) = areFields file (field ∷ []) && (isCondition file when && areFields other (id ∷ []))
 
 pub all-named : all isNamed rules ≡ true
 unfolding open-rows all isNamed

@@ -13,7 +13,7 @@ use Rattle.table_fields.specs.Flat.{firstValue}
 use Rattle.table_name.specs.Name.{indexOf}
 use Rattle.rule_when.specs.declared.When.{When}
 use Rattle.rule_shape.specs.declared.Rule.{Rule}
-use Rattle.rule_shape.specs.declared.Rule.the-variants.{KeyOf, OneOf, NullUnless, GivenIf, GivenUnless, NoneBelow, SomeAbove, Together, LevelRun, ParentGiven, TargetIn, ParentIs}
+use Rattle.rule_shape.specs.declared.Rule.the-variants.{KeyOf, OneOf, NullUnless, GivenIf, GivenUnless, NoneBelow, SomeAbove, Together, LevelRun, ParentGiven, TargetIn, ParentIs, EachHas}
 use Rattle.rule_shape.specs.Rule.{key, condition, rowOf}
 
 -- ---- Names
@@ -79,6 +79,9 @@ givenUnless file a when = GivenUnless file (no file a) when
 
 unfoldable pub target : ℕ → String → When → ℕ → String → Rule
 target file a when other b = TargetIn file (no file a) when other (no other b)
+
+unfoldable pub eachHas : ℕ → String → When → ℕ → String → Rule
+eachHas file a when other b = EachHas file (no file a) when other (no other b)
 
 -- over the fields from one to another
 unfoldable pub noneBelow : ℕ → String → String → Rule
@@ -156,7 +159,7 @@ rules =
     nullUnless 1 "ContractorIDCode" (isGiven 1 "ContractorIDCodeTypeID") ∷
     nullUnless 1 "EVMSAcceptanceDate" (isTrue 1 "EVMSAccepted") ∷
     -- 67 "each calendar has a workshift"
-    target 6 "ID" always 7 "CalendarID" ∷
+    eachHas 6 "ID" always 7 "CalendarID" ∷
     -- 68 "no hours below zero"; 69 "some hours above zero; null is 0"; 70 "hours not below zero"
     noneBelow 7 "SundayWorkHours" "SaturdayWorkHours" ∷
     someAbove 7 "SundayWorkHours" "SaturdayWorkHours" ∷
@@ -166,8 +169,8 @@ rules =
     -- 72 "OtherEarnedValueTechnique null unless OTHER_DISCRETE or FIXED_X_Y"
     nullUnless 9 "OtherEarnedValueTechnique" (isEither 9 "EarnedValueTechniqueID" 6 "OTHER_DISCRETE" "FIXED_X_Y") ∷
     -- 73 "schedule data for each task"; 74 "each SUMMARY task in the outline"
-    target 9 "ID" always 10 "TaskID" ∷
-    target 9 "ID" (is 9 "TaskTypeID" 3 "SUMMARY") 15 "TaskID" ∷
+    eachHas 9 "ID" always 10 "TaskID" ∷
+    eachHas 9 "ID" (is 9 "TaskTypeID" 3 "SUMMARY") 15 "TaskID" ∷
     -- 75 "the five baseline and variance fields all null or none"
     together 10 "BaselineDuration" "FinishVarianceDuration" ∷
     -- 76 "OtherConstraintType null unless OTHER"; 77 "ConstraintDate given unless AS_LATE_AS_POSSIBLE or OTHER"

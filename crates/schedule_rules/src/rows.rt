@@ -25,6 +25,8 @@ const TARGET_IN: u32 = 10;
 
 const PARENT_IS: u32 = 11;
 
+const EACH_HAS: u32 = 12;
+
 // Nine numbers a mark: the shape, the file whose records are judged, the file that is looked into,
 // the deciding field, and five that the shape reads.
 pub const RULE_ROWS: [u32; 549] = [
@@ -451,7 +453,7 @@ pub const RULE_ROWS: [u32; 549] = [
     0,
     0,
     0,
-    TARGET_IN, // 67: file 6 ID in file 7 CalendarID
+    EACH_HAS, // 67: file 6 ID in file 7 CalendarID
     6,
     7,
     0,
@@ -505,7 +507,7 @@ pub const RULE_ROWS: [u32; 549] = [
     27,
     23,
     0,
-    TARGET_IN, // 73: file 9 ID in file 10 TaskID
+    EACH_HAS, // 73: file 9 ID in file 10 TaskID
     9,
     10,
     0,
@@ -514,7 +516,7 @@ pub const RULE_ROWS: [u32; 549] = [
     0,
     0,
     0,
-    TARGET_IN, // 74: file 9 ID in file 15 TaskID if TaskTypeID SUMMARY
+    EACH_HAS, // 74: file 9 ID in file 15 TaskID if TaskTypeID SUMMARY
     9,
     15,
     0,

@@ -1,7 +1,7 @@
 -- `gate_c::knotsaddle_fresh` meets its contract: it writes nothing to lists of a wrong length.
 use borrow.Author.Needs.{needs}
 use Rattle.mark_numbers.proofs.Laws.{lists-right}
-use Rattle.gate_c.proofs.Laws.{board-wrong, fresh-ill, fresh-fits, fresh-well}
+use Rattle.gate_c.proofs.Laws.{board-wrong, fresh-ill, fresh-well}
 use Rattle.gate_c.proofs.knotsaddle_fresh.Statement.{statement}
 use Rattle.gate_c.proofs.knotsaddle_fresh.Tie as tie
 
@@ -21,7 +21,7 @@ returns : tie.Need-returns
 returns c = fresh-ill _ (board-wrong _ (c .before .have-length .ensures) (c .if1 .taken))
 
 make-fresh-requires : tie.Need-make-fresh-requires
-make-fresh-requires c κs = fresh-fits _ (lists-right 81 _ (c .before .before .before .before .have-length .ensures) (c .before .before .before .if1 .left))
+make-fresh-requires c κs = search needs
 
 same-length-4 : tie.Need-same-length-4
 same-length-4 c = search needs

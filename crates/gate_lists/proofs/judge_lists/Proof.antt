@@ -8,7 +8,7 @@ use lib.ListN.{length, length-replicate}
 use Rattle.mark_numbers.specs.Marks.{marksIn}
 use Rattle.standing.specs.Standing.{standing}
 use Rattle.gate_lists.specs.Which.{gateCalled}
-use Rattle.gate_lists.proofs.Answers.{lists-even, judge-wrong, judge-fresh, judge-full, bundle-stands}
+use Rattle.gate_lists.proofs.Answers.{judge-wrong, judge-fresh, judge-full, bundle-stands}
 use Rattle.gate_lists.proofs.judge_lists.Statement.{statement}
 use Rattle.gate_lists.proofs.judge_lists.Tie as tie
 
@@ -36,9 +36,7 @@ refusal-of-requires : tie.Need-refusal-of-requires
 refusal-of-requires c κs = search needs
 
 make-fresh-requires : tie.Need-make-fresh-requires
-make-fresh-requires c κs =
-    let a = c .before .before .before .before .before .before .before .before .before .before .before .before .before .before .before .before .args in
-    lists-even (gateCalled (a .which)) (length (now (a .work))) (marksIn (now (a .kinds)) (now (a .places)) (now (a .companions))) (c .before .before .before .before .before .before .before .lent-fault .ensures) (c .before .before .before .before .before .before .if1 .left)
+make-fresh-requires c κs = search needs
 
 same-length-4 : tie.Need-same-length-4
 same-length-4 c = search needs

@@ -1,65 +1,54 @@
--- `mark_numbers::make_fresh` meets its contract. The loop's invariant: the first m marks are fresh and the rest as they were;
--- the measure is how many are left.
+-- `mark_numbers::make_fresh` meets its contract, by whether the lists are of one length.
 -- Assumes nothing.
-use Prim.Native.Nat.{_-_, _≤_}
-use mathlib.Core.Path.{refl}
-use native.Mathlib.Omega.{arith}
-use lib.ListN.{length}
+use mathlib.Core.Path.{sym, _∙_}
 use borrow.Author.Needs.{needs}
-use Rattle.mark_numbers.specs.Marks.{marksIn, notJudged, freshMarks}
-use Rattle.mark_numbers.proofs.Laws.{Putting, lists-long, putting-starts, putting-puts, putting-ends}
+use Rattle.mark_numbers.specs.Marks.{marksIn}
+use Rattle.mark_numbers.proofs.Laws.{fresh-over, fresh-kept}
 use Rattle.mark_numbers.proofs.make_fresh.Statement.{statement}
 use Rattle.mark_numbers.proofs.make_fresh.Tie as tie
 
-abbrev Inv-loop : tie.InvT-loop
-Inv-loop kinds₀ places₀ companions₀ fresh m₀ kinds places companions m =
-    Putting (λ i. notJudged) (marksIn kinds₀ places₀ companions₀) m (marksIn kinds places companions) × (m ≤ length kinds₀)
+have-length-requires : tie.Need-have-length-requires
+have-length-requires c κs = search needs
 
-abbrev μ-loop : tie.MeasureT-loop
-μ-loop kinds₀ places₀ companions₀ fresh m₀ kinds places companions m = length kinds₀ - m
+fill-fresh-requires : tie.Need-fill-fresh-requires
+fill-fresh-requires c κs = sym (c .before .before .before .before .have-length .ensures) ∙ c .before .before .before .if1 .taken
 
-loop-holds : tie.Need-loop-holds Inv-loop μ-loop
-loop-holds c = (putting-starts _ _, omega arith)
+same-length : tie.Need-same-length
+same-length c = search needs
 
-put-mark-requires : tie.Need-put-mark-requires Inv-loop μ-loop
-put-mark-requires c κs = search needs
+same-length-2 : tie.Need-same-length-2
+same-length-2 c = search needs
 
-add-m : tie.Need-add-m Inv-loop μ-loop
-add-m c = omega arith
+same-length-3 : tie.Need-same-length-3
+same-length-3 c = search needs
 
-loop-less : tie.Need-loop-less Inv-loop μ-loop
-loop-less c = omega (arith, c .before .before .before .before .before .before .before .before .before .before .before .loop .inv .0 .kinds-put .long)
-
-loop-again : tie.Need-loop-again Inv-loop μ-loop
-loop-again c =
-    (putting-puts _ _ (c .before .before .before .before .before .before .before .before .before .before .before .loop .inv .0) _ (lists-long _ _ (c .before .before .before .before .before .before .before .before .before .before .before .before .before .before .before .pre)) (omega (arith, c .before .before .before .before .before .before .before .before .before .before .before .loop .inv .0 .kinds-put .long)) _ refl (c .before .before .before .before .before .before .put-mark .ensures), omega (arith, c .before .before .before .before .before .before .before .before .before .before .before .loop .inv .0 .kinds-put .long))
-
-same-length : tie.Need-same-length Inv-loop μ-loop
-same-length c = c .before .loop .inv .0 .kinds-put .long
-
-same-length-2 : tie.Need-same-length-2 Inv-loop μ-loop
-same-length-2 c = c .before .loop .inv .0 .places-put .long
-
-same-length-3 : tie.Need-same-length-3 Inv-loop μ-loop
-same-length-3 c = c .before .loop .inv .0 .companions-put .long
-
-returns : tie.Need-returns Inv-loop μ-loop
-unfolding freshMarks
+returns : tie.Need-returns
 returns c =
-    putting-ends _ _ (c .before .loop .inv .0) _ (lists-long _ _ (c .before .before .before .before .before .pre)) (omega (arith, c .before .loop .inv .0 .kinds-put .long))
+    c .before .before .before .before .before .before .fill-fresh .ensures ∙ sym (fresh-over _ (sym (c .before .before .before .before .before .before .before .before .before .before .before .have-length .ensures) ∙ c .before .before .before .before .before .before .before .before .before .before .if1 .taken))
+
+same-length-4 : tie.Need-same-length-4
+same-length-4 c = search needs
+
+same-length-5 : tie.Need-same-length-5
+same-length-5 c = search needs
+
+same-length-6 : tie.Need-same-length-6
+same-length-6 c = search needs
+
+returns-2 : tie.Need-returns-2
+returns-2 c = sym (fresh-kept _ (sym (c .before .have-length .ensures) ∙ c .if1 .left))
 
 pub make-fresh-spec : {M : Type 1} → statement M
 make-fresh-spec =
     tie.close
     (tie.spec
-    Inv-loop
-    μ-loop
-    loop-holds
-    put-mark-requires
-    add-m
-    loop-less
-    loop-again
+    have-length-requires
+    fill-fresh-requires
     same-length
     same-length-2
     same-length-3
-    returns)
+    returns
+    same-length-4
+    same-length-5
+    same-length-6
+    returns-2)

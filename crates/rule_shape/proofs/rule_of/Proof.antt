@@ -64,7 +64,11 @@ unfolding ruleOf shapesOf
 returns-11 c = rw (c .match .keys11)
 
 returns-12 : tie.Need-returns-12
-returns-12 c = sym (last-shape _ _ _ _ _ _ _ _ _ (passed _ 11 (c .match .rest)))
+unfolding ruleOf shapesOf
+returns-12 c = rw (c .match .keys12)
+
+returns-13 : tie.Need-returns-13
+returns-13 c = sym (last-shape _ _ _ _ _ _ _ _ _ (passed _ 12 (c .match .rest)))
 
 pub rule-of-spec : {M : Type 1} → statement M
 rule-of-spec =
@@ -81,4 +85,5 @@ rule-of-spec =
     returns-9
     returns-10
     returns-11
-    returns-12)
+    returns-12
+    returns-13)

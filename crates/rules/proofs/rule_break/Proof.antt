@@ -99,11 +99,8 @@ parent-break-requires c κs = search needs
 enum-known-rule-11 : tie.Need-enum-known-rule-11
 enum-known-rule-11 c = search needs
 
-target-rule-requires : tie.Need-target-rule-requires
-target-rule-requires c κs = search needs
-
-alone-requires-9 : tie.Need-alone-requires-9
-alone-requires-9 c κs = search needs
+target-break-requires : tie.Need-target-break-requires
+target-break-requires c κs = search needs
 
 enum-known-rule-12 : tie.Need-enum-known-rule-12
 enum-known-rule-12 c = search needs
@@ -119,6 +116,12 @@ part-requires c κs = search needs
 
 parent-type-break-requires : tie.Need-parent-type-break-requires
 parent-type-break-requires c κs = search needs
+
+enum-known-rule-13 : tie.Need-enum-known-rule-13
+enum-known-rule-13 c = search needs
+
+target-break-requires-2 : tie.Need-target-break-requires-2
+target-break-requires-2 c κs = search needs
 
 returns : tie.Need-returns
 unfolding ruleBreak
@@ -162,11 +165,15 @@ returns-10 c = rw (← (c .before .before .before .before .rule-at .ensures), c 
 
 returns-11 : tie.Need-returns-11
 unfolding ruleBreak
-returns-11 c = rw (← (c .before .before .before .before .before .rule-at .ensures), c .before .before .before .rule11 .given .1) (c .alone9 .ensures ∙ ap alone (c .before .target-rule .ensures))
+returns-11 c = rw (← (c .before .before .before .before .rule-at .ensures), c .before .before .rule11 .given .1) (c .target-break .ensures)
 
 returns-12 : tie.Need-returns-12
 unfolding ruleBreak valueTextAt
 returns-12 c = rw (← (c .before .before .before .before .before .before .before .rule-at .ensures), c .before .before .before .before .before .rule12 .given .1, ← (c .before .before .before .value-start .ensures), ← (c .before .before .value-end .ensures), ← (c .before .part .ensures)) (c .parent-type-break .ensures)
+
+returns-13 : tie.Need-returns-13
+unfolding ruleBreak
+returns-13 c = rw (← (c .before .before .before .before .rule-at .ensures), c .before .before .rule13 .given .1) (c .target-break2 .ensures)
 
 pub rule-break-spec : {M : Type 1} → statement M
 rule-break-spec =
@@ -203,13 +210,14 @@ rule-break-spec =
     enum-known-rule-10
     parent-break-requires
     enum-known-rule-11
-    target-rule-requires
-    alone-requires-9
+    target-break-requires
     enum-known-rule-12
     value-start-requires
     value-end-requires
     part-requires
     parent-type-break-requires
+    enum-known-rule-13
+    target-break-requires-2
     returns
     returns-2
     returns-3
@@ -221,4 +229,5 @@ rule-break-spec =
     returns-9
     returns-10
     returns-11
-    returns-12)
+    returns-12
+    returns-13)

@@ -1,0 +1,10 @@
+-- One name opens every definition of this crate and of those below it, for tests that compute: a definition that is
+-- added here asks nothing of those above.
+use mathlib.Core.Bool.{Bool, true}
+use Rattle.sorted_numbers.proofs.Opens.{open-sorted}
+use Rattle.json_bytes.proofs.Opens.{open-bytes}
+use Rattle.number_search.specs.Search.{frontBelow, middle, searchFrom, searched}
+
+unfoldable pub open-search : Bool
+unfolding open-sorted open-bytes frontBelow middle searchFrom searched
+open-search = true

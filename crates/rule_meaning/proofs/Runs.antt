@@ -1,0 +1,77 @@
+-- What the rules over a run of fields mean, marks 68, 69, 70 and 75, and what the rule on keys means, marks 20 to 35.
+-- Assumes nothing.
+use Prim.Native.Nat.{ℕ}
+use mathlib.Core.Path.{_≡_, refl, ap}
+use mathlib.Core.Bool.{Bool, true, false, not, _&&_}
+use mathlib.Core.Logic.{_↔_, inl, inr, ⊎-elim}
+use borrow.Author.Tests.{not-false}
+use Rattle.rule_cells.specs.Cells.{Table, isGiven, signIn}
+use Rattle.rule_key.specs.declared.Key.{Key}
+use Rattle.rule_key.specs.Key.{sameKey, repeats, keyRule}
+use Rattle.rule_key.proofs.Laws.{repeats-none, none-repeats}
+use Rattle.rule_hours.specs.Hours.{anyField, belowZero, aboveZero, isBelow, isAbove, isNull, breaks, noneBelow, someAbove, together}
+use Rattle.rule_hours.proofs.Laws.{any-shows, none-shows, shown-any, shown-none, other-than-below, is-above}
+use Rattle.rule_meaning.specs.Keeps.{Answers, HasItsOwnKey, NoneIsBelow, SomeIsAbove, AllNullOrNone}
+use Rattle.rule_meaning.proofs.Answers.{answers, not-true-false, never-both}
+
+-- ---- Marks 20 to 35 hold exactly if no record has the key of an earlier one, and else name the first that has
+pub key-means : (t : Table) (key : Key) → Answers (HasItsOwnKey t key) (t .records) (keyRule t key .«record»)
+unfolding keyRule
+key-means t key = answers (repeats t key) (HasItsOwnKey t key) told (t .records)
+  where
+    told : (r : ℕ) → (repeats t key r ≡ false) ↔ HasItsOwnKey t key r
+    told r = (
+      λ e j l same. never-both same (repeats-none t key r e j l),
+      λ own. none-repeats t key r (λ j l. not-true-false (sameKey t key j r) (own j l)),
+    )
+
+module _ (t : Table) (from to : ℕ) where
+  -- ---- Marks 68 and 70 hold exactly if no record has hours below zero, and else name the first that has
+  pub none-below-means : Answers (NoneIsBelow t from to) (t .records) (noneBelow t from to)
+  unfolding noneBelow breaks isBelow
+  none-below-means = answers _ (NoneIsBelow t from to) told (t .records)
+    where
+      told : (r : ℕ) → (anyField (isBelow t r) from to ≡ false) ↔ NoneIsBelow t from to r
+      told r = (
+        λ e k a b below. never-both (ap belowZero below) (none-shows (isBelow t r) from to e k a b),
+        λ none. shown-none (isBelow t r) from to (λ k a b. other-than-below (signIn t r k) (none k a b)),
+      )
+
+  -- ---- Mark 69 holds exactly if every record has some hours above zero, and else names the first that has none
+  pub some-above-means : Answers (SomeIsAbove t from to) (t .records) (someAbove t from to)
+  unfolding someAbove breaks isAbove
+  some-above-means = answers _ (SomeIsAbove t from to) told (t .records)
+    where
+      told : (r : ℕ) → (not (anyField (isAbove t r) from to) ≡ false) ↔ SomeIsAbove t from to r
+      told r = (
+        λ e. (let w = any-shows (isAbove t r) from to (not-false _ e) in (w .0, w .1, w .2, is-above (signIn t r (w .0)) (w .3))),
+        λ w. ap not (shown-any (isAbove t r) from to (w .0) (w .1) (w .2) (ap aboveZero (w .3))),
+      )
+
+  -- ---- Mark 75 holds exactly if every record has all fields of the run null or none, and else names the first that has not
+  module _ (r : ℕ) where
+    some-given : Bool
+    some-given = anyField (isGiven (t .cells) (t .width) r) from to
+
+    some-null : Bool
+    some-null = anyField (isNull (t .cells) (t .width) r) from to
+
+    one-kind : (b : Bool) → some-given ≡ b → (some-given && some-null) ≡ false → AllNullOrNone t from to r
+    unfolding some-given some-null isNull
+    one-kind true p e = inr (λ k a b. not-false (isGiven (t .cells) (t .width) r k) (none-shows (isNull (t .cells) (t .width) r) from to (rw p at e) k a b))
+    one-kind false p e = inl (λ k a b g. never-both g (none-shows (isGiven (t .cells) (t .width) r) from to p k a b))
+
+    and-none : (a b : Bool) → b ≡ false → (a && b) ≡ false
+    and-none true b e = e
+    and-none false b e = refl
+
+    not-mixed : AllNullOrNone t from to r → (some-given && some-null) ≡ false
+    unfolding some-given some-null isNull
+    not-mixed =
+        ⊎-elim
+        (λ none. rw (shown-none (isGiven (t .cells) (t .width) r) from to (λ k a b. not-true-false (isGiven (t .cells) (t .width) r k) (none k a b))))
+        (λ all. and-none some-given some-null (shown-none (isNull (t .cells) (t .width) r) from to (λ k a b. ap not (all k a b))))
+
+  pub together-means : Answers (AllNullOrNone t from to) (t .records) (together (t .cells) (t .width) (t .records) from to)
+  unfolding together breaks some-given some-null
+  together-means = answers _ (AllNullOrNone t from to) (λ r. (one-kind r (some-given r) refl, not-mixed r)) (t .records)

@@ -1,0 +1,4 @@
+pub mod Opens
+pub mod Laws
+pub mod Walk
+pub mod Cases
