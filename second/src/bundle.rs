@@ -10,6 +10,7 @@ pub const WRONG_LAYOUT: u32 = 3;
 pub const NO_SUCH_FILE: u32 = 4;
 pub const OUTPUT_TOO_SHORT: u32 = 5;
 pub const NEW_BUNDLE_TOO_LONG: u32 = 6;
+pub const NO_SUCH_MARK: u32 = 7;
 
 /// The 20 files of a bundle; an omitted one is nothing.
 pub type Files<'a> = [Option<&'a [u8]>; FILES];

@@ -40,6 +40,30 @@ pub enum Enumeration {
     CustomField,
 }
 
+/// The 20 files by their numbers.
+pub const FILE_NAMES: [&str; 20] = [
+    "FileType.txt",
+    "DatasetMetadata",
+    "SourceSoftwareMetadata",
+    "ProjectScheduleData",
+    "ProjectCustomFieldDefinitions",
+    "ProjectCustomFieldValues",
+    "Calendars",
+    "CalendarWorkshifts",
+    "CalendarExceptions",
+    "Tasks",
+    "TaskScheduleData",
+    "TaskCustomFieldDefinitions",
+    "TaskCustomFieldValues",
+    "TaskConstraints",
+    "TaskRelationships",
+    "TaskOutlineStructure",
+    "Resources",
+    "ResourceCustomFieldDefinitions",
+    "ResourceCustomFieldValues",
+    "ResourceAssignments",
+];
+
 const fn given(table: usize, name: &'static str, kind: Type) -> Field {
     Field { table, name, kind, nullable: false }
 }

@@ -22,6 +22,8 @@ pub mod json;
 #[cfg(not(serve_only))]
 pub mod print;
 #[clippy::msrv = "1.63"]
+pub mod reason;
+#[clippy::msrv = "1.63"]
 pub mod rules;
 #[clippy::msrv = "1.63"]
 pub mod table;

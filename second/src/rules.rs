@@ -300,16 +300,18 @@ fn has_needless_other_technique(record: &Record) -> bool {
         && !id_is(record, "EarnedValueTechniqueID", &["OTHER_DISCRETE", "FIXED_X_Y"])
 }
 
+/// The five baseline and variance fields.
+pub(crate) const BASELINE_FIELDS: [&str; 5] = [
+    "BaselineDuration",
+    "BaselineStartDate",
+    "BaselineFinishDate",
+    "StartVarianceDuration",
+    "FinishVarianceDuration",
+];
+
 fn has_part_of_a_baseline(record: &Record) -> bool {
-    let fields = [
-        "BaselineDuration",
-        "BaselineStartDate",
-        "BaselineFinishDate",
-        "StartVarianceDuration",
-        "FinishVarianceDuration",
-    ];
-    let nulls = fields.iter().filter(|field| record.is_null(field)).count();
-    nulls != 0 && nulls != fields.len()
+    let nulls = BASELINE_FIELDS.iter().filter(|field| record.is_null(field)).count();
+    nulls != 0 && nulls != BASELINE_FIELDS.len()
 }
 
 fn has_needless_other_constraint(record: &Record) -> bool {

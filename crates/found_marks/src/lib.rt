@@ -32,14 +32,14 @@ pub fn count_of(forms: &[u32], fields: &[u32], k: usize) -> usize
 }
 
 // How many cells a record of file k has.
-fn width_of(forms: &[u32], fields: &[u32], k: usize) -> usize
+pub fn width_of(forms: &[u32], fields: &[u32], k: usize) -> usize
     ensures { λ r. ⌜ r ≡ 2 * countIn (now (forms .entry)) (now (fields .entry)) k ⌝ }
 {
     2 * count_of(forms, fields, k)
 }
 
 // The cells of file k, from its start up to the next; none where there is no such part.
-fn cells_of<'a>(work: &'a [u32], starts: &[usize], k: usize) -> &'a [u32]
+pub fn cells_of<'a>(work: &'a [u32], starts: &[usize], k: usize) -> &'a [u32]
     ensures { λ r. ⌜ now r ≡ partOf (now (work .entry)) (getD (now (starts .entry)) k 0) (getD (now (starts .entry)) (k + 1) 0) ⌝ }
 {
     if starts.len() <= k {

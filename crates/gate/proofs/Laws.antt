@@ -1,20 +1,29 @@
 -- A verdict from the numbers that a call over lists answers and the lists that it leaves; and that memory of a call's own is
 -- room enough.
 -- Assumes nothing.
-use Prim.Native.Nat.{ℕ}
-use mathlib.Core.Path.{_≡_, ap, _∙_}
-use mathlib.Core.List.{List}
+use Prim.Native.Nat.{ℕ, _+_, _-_, _<_}
+use mathlib.Core.Path.{_≡_, refl, sym, ap, _∙_}
+use mathlib.Core.List.{List, [], _∷_}
 use native.Mathlib.Omega.{arith}
 use borrow.Author.Tests.{le-leb}
+use denote.Enum.Declared.{tagOf}
+use types.Run.{OneOf, miss}
+use lib.ListN.{length}
 use Rattle.parts.specs.Files.{File}
+use Rattle.parts.proofs.Laws.{part-past}
 use Rattle.mark_numbers.specs.Marks.{Marks, marksIn, freshMarks, notJudged}
 use Rattle.mark_numbers.proofs.Laws.{Long, long-lists, marks-long}
 use Rattle.bundle.specs.declared.Made.{Made}
 use Rattle.bundle_layout.specs.Change.{output}
 use Rattle.board.specs.Board.{boardOf}
+use Rattle.reason_answer.specs.declared.Shown.{Shown}
+use Rattle.reason_answer.specs.declared.Reason.{Reason}
+use Rattle.reason_answer.specs.declared.Reason.the-variants.{Refused, Holds, NotJudged, OwnMark, Broken, Missing}
+use Rattle.reason_answer.proofs.Reason.{the-type}
 use Rattle.gate_marks.specs.Again.{hasRoom, hasLists}
 use Rattle.gate_calls.specs.Calls.{Answer, judgement, tried, changeMade}
 use Rattle.gate_calls.specs.Lent.{lentFault, judgedIn, triedIn, madeIn, outputIn}
+use Rattle.gate_calls.specs.Reasons.{reasonOf, reasonAsked, shownPart, valueShown}
 use Rattle.gate_calls.proofs.Lent.{lent-judge, lent-try, lent-make, lent-output}
 use Rattle.gate_lists.specs.Which.{madeOf}
 use Rattle.schedule.specs.Schedule.{schedule}
@@ -56,3 +65,30 @@ module _ {lent : ℕ} (w : lent ≡ 794702) where
     pub own-output : {last : List ℕ} (out : List ℕ) → last ≡ outputIn schedule s k f lent handed out → last ≡ output 20 s k f out
     own-output out e =
         e ∙ lent-output schedule lent handed (has-room handed long) s k f out ∙ ap (λ n. output n s k f out) files-are
+
+  pub own-reason : {r : Reason} (s : List ℕ) (m : ℕ) → r ≡ reasonAsked schedule s lent m → r ≡ reasonOf schedule s m
+  unfolding reasonAsked hasRoom
+  own-reason s m e = e ∙ rw (workspace-is, le-leb 794702 lent (omega arith), files-are)
+
+-- ---- the value that is shown
+module _ (s : List ℕ) (shown : Shown) where
+  pub shown-too-long : length s < shown .length → [] ≡ shownPart s shown
+  unfolding shownPart
+  shown-too-long l = sym (part-past s (shown .start) (shown .start + shown .length) (omega arith) (omega arith))
+
+  pub shown-past : length s - shown .length < shown .start → [] ≡ shownPart s shown
+  unfolding shownPart
+  shown-past l = sym (part-past s (shown .start) (shown .start + shown .length) (omega arith) (omega arith))
+
+-- an answer of any other variant, told by its number, shows none
+abbrev others : List ℕ
+others = 0 ∷ 1 ∷ 2 ∷ 3 ∷ []
+
+pub none-shown : (s : List ℕ) (told : Reason) → OneOf others (tagOf the-type told) → [] ≡ valueShown s told
+unfolding valueShown
+none-shown s (Refused refusal) k = refl
+none-shown s Holds k = refl
+none-shown s (NotJudged file) k = refl
+none-shown s (OwnMark kind place companion) k = refl
+none-shown s (Broken shown) k = absurd (miss others 4 tt k)
+none-shown s (Missing shown searched) k = absurd (miss others 5 tt k)

@@ -1,5 +1,5 @@
-// Document 01's three calls with a board: judge a bundle in full, try a change, make it. Each is the
-// call over lists, and the ones that own their memory are those that are lent it.
+// Document 01's three calls with a board: judge a bundle in full, try a change, make it; and what is told
+// of one mark. Each is the call over lists, and the ones that own their memory are those that are lent it.
 ghost use mathlib.Core.Path.{_≡_};
 ghost use lib.ListN.{length};
 ghost use Rattle.parts.specs.Files.{newFile};
@@ -8,13 +8,18 @@ ghost use Rattle.mark_numbers.specs.Marks.{freshMarks};
 ghost use Rattle.board.specs.Board.{marksOn};
 ghost use Rattle.gate_calls.specs.Calls.{judgement, tried, changeMade};
 ghost use Rattle.gate_calls.specs.Lent.{judgedIn, triedIn, madeIn, outputIn, judgeLeft, changeLeft};
+ghost use Rattle.gate_calls.specs.Reasons.{reasonOf, reasonAsked, shownPart, valueShown, reasonLeft};
 ghost use Rattle.schedule.specs.Schedule.{schedule};
 ghost use Rattle.gate.specs.Gate.{verdictOf};
 use board::Board;
 use gate_lists::Which;
 use gate_lists::judge_lists;
 use gate_lists::make_lists;
+use gate_lists::reason_lists;
 use gate_lists::try_lists;
+use parts::part;
+use reason_answer::Reason;
+use reason_answer::Shown;
 
 // How a call ends: a refusal or 0, the length of the bundle that was judged (0 if refused), the board.
 pub struct Verdict {
@@ -169,4 +174,47 @@ pub fn make_change<'a>(
 {
     let mut work = [0u32; 794702];
     make_in(bundle, board, k, present, new, out, &mut work)
+}
+
+// What is told of a mark of a bundle, in a lent workspace, whatever that holds. One of fewer than 794,702
+// numbers is refused as 14, before all else.
+pub fn reason_in(bundle: &[u8], mark: usize, work: &mut [u32]) -> Reason
+    ensures { λ r. ⌜ r ≡ reasonAsked schedule (now (bundle .entry)) (length (now (work .entry))) mark ⌝ }
+    ensures { λ r. ⌜ now (work .exit) ≡ reasonLeft schedule (now (bundle .entry)) mark r (now (work .entry)) ⌝ }
+{
+    reason_lists(Which::Schedule, bundle, mark, work)
+}
+
+// What is told of a mark of a bundle.
+pub fn reason(bundle: &[u8], mark: usize) -> Reason
+    ensures { λ r. ⌜ r ≡ reasonOf schedule (now (bundle .entry)) mark ⌝ }
+{
+    let mut work = [0u32; 794702];
+    reason_in(bundle, mark, &mut work)
+}
+
+fn shown_part(bundle: &[u8], shown: Shown) -> &[u8]
+    ensures { λ r. ⌜ now r ≡ shownPart (now (bundle .entry)) shown ⌝ }
+{
+    let start = shown.start;
+    let length = shown.length;
+    if bundle.len() < length {
+        return &bundle[..0];
+    }
+    if bundle.len() - length < start {
+        return &bundle[..0];
+    }
+    part(bundle, start, start + length)
+}
+
+// The value that is shown, as that part of the bundle itself; empty for null and for every answer that
+// shows none.
+pub fn value_shown(bundle: &[u8], told: Reason) -> &[u8]
+    ensures { λ r. ⌜ now r ≡ valueShown (now (bundle .entry)) told ⌝ }
+{
+    match told {
+        Reason::Broken { shown } => shown_part(bundle, shown),
+        Reason::Missing { shown, .. } => shown_part(bundle, shown),
+        _ => &bundle[..0],
+    }
 }

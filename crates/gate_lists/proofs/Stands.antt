@@ -12,16 +12,17 @@ use native.Mathlib.Omega.{arith}
 use lib.ListN.{length, take, drop}
 use lib.Seq.{take-all}
 use lib.Dec.{ltb, eqb}
-use borrow.Author.Tests.{eqb-true, eqb-false}
+use borrow.Author.Tests.{le-leb, eqb-true, eqb-false}
 use Rattle.parts.specs.Part.{partOf}
 use Rattle.parts.specs.Files.{File, Left, Given, newFile}
 use Rattle.parts.proofs.Laws.{part-is}
-use Rattle.standing.specs.Standing.{sliceOf, standing, placed}
-use Rattle.standing.proofs.Laws.{slice-first, slice-second, placed-length, placed-fits, placed-there, placed-nowhere, placed-other}
+use Rattle.standing.specs.Standing.{sliceOf, standing, startStanding, placed}
+use Rattle.standing.proofs.Laws.{slice-first, slice-second, placed-length, placed-fits, placed-there, placed-nowhere, placed-other, start-placed, start-kept}
 use Rattle.bundle_bytes.specs.Pieces.{changed}
 use Rattle.bundle_bytes.proofs.Laws.{changed-same, changed-other}
-use Rattle.bundle_layout.specs.Bundle.{offsetAt, lengthAt, isOmitted, partAt, fileAt}
+use Rattle.bundle_layout.specs.Bundle.{offsetAt, lengthAt, isOmitted, endOf, bundleFault, partAt, fileAt}
 use Rattle.bundle_layout.specs.Change.{filesAfter}
+use Rattle.bundle_layout.proofs.Laws.{omitted-offset, present-offset, end-within}
 use Rattle.gate_lists.specs.Stands.{standsIn}
 
 module _ (s stand : List ℕ) where
@@ -57,6 +58,30 @@ module _ (s stand : List ℕ) where
     stands-bundle (suc n) l k h =
         ⊎-elim (λ e. rw e (stands-last n l)) (λ g. placed-other (standsIn s n stand) n _ _ _ s b c k (λ q. omega arith) ∙ stands-bundle n (omega arith) k g)
         (eq-or-lt-of-le {n = k} {m = n} (omega arith))
+
+    -- where it starts in the bundle, if that is long enough
+    abbrev Fits : ℕ → Type 0
+    Fits k = offsetAt s k ≤ length (sliceOf s b c (cond (isOmitted s k) 0 1))
+
+    starts-last : (k : ℕ) → k < length stand / 3 → Fits k → startStanding s b c (standsIn s (suc k) stand) k ≡ offsetAt s k
+    unfolding standsIn
+    starts-last k l fits =
+        start-placed (standsIn s k stand) k (cond (isOmitted s k) 0 1) (offsetAt s k) (offsetAt s k + lengthAt s k) s b c (rw (stands-length k) l) ∙ rw (le-leb (offsetAt s k) (length (sliceOf s b c (cond (isOmitted s k) 0 1))) fits)
+
+    pub starts-bundle : (n : ℕ) → n ≤ length stand / 3 → (k : ℕ) → k < n → Fits k → startStanding s b c (standsIn s n stand) k ≡ offsetAt s k
+    unfolding standsIn
+    starts-bundle zero l k h fits = absurd (omega arith)
+    starts-bundle (suc n) l k h fits =
+        ⊎-elim (λ e. rw e (starts-last n l (rw e at fits))) (λ g. start-kept (standsIn s n stand) n _ _ _ s b c k (λ q. omega arith) ∙ starts-bundle n (omega arith) k g fits)
+        (eq-or-lt-of-le {n = k} {m = n} (omega arith))
+
+    -- as it is where the bundle is not refused
+    pub offset-fits : (n : ℕ) → bundleFault n s ≡ 0 → (k : ℕ) → k < n → Fits k
+    offset-fits n fine k l = go (isOmitted s k) refl
+      where
+        go : (t : Bool) → isOmitted s k ≡ t → offsetAt s k ≤ length (sliceOf s b c (cond t 0 1))
+        go true e = omega (arith, omitted-offset s k e)
+        go false e = rw (slice-first s b c 1 refl) (omega (arith, present-offset n s fine k l e, end-within n s fine k l))
 
 -- ---- after a change of file k: in the second slice, whole, or nowhere
 whole-part : (new : List ℕ) → partOf new 0 (length new) ≡ new

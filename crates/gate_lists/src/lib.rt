@@ -1,18 +1,20 @@
-// The three calls of each gate over what a caller lends: a workspace, and lists for the marks.
+// The calls of each gate over what a caller lends: a workspace, and lists for the marks.
 ghost use mathlib.Core.Path.{_≡_};
 ghost use mathlib.Core.Bool.{cond};
 ghost use Prim.Native.Nat.{_+_, _≤_, _<_, _/_};
 ghost use lib.ListN.{length};
 ghost use lib.Dec.{eqb};
 ghost use Rattle.parts.specs.Files.{newFile};
-ghost use Rattle.standing.specs.Standing.{standing};
+ghost use Rattle.standing.specs.Standing.{standing, startStanding};
 ghost use Rattle.mark_numbers.specs.Marks.{marksIn};
 ghost use Rattle.bundle_layout.specs.Bundle.{bundleFault};
 ghost use Rattle.bundle_layout.specs.Change.{filesAfter};
 ghost use Rattle.gate_marks.specs.Gate.{marksOf};
 ghost use Rattle.gate_marks.specs.Again.{workspaceOf, canJudge, marksAfter, workAfterwards};
+ghost use Rattle.reason.specs.Reason.{reasonIn, workTold};
 ghost use Rattle.gate_calls.specs.Calls.{changedMarks};
 ghost use Rattle.gate_calls.specs.Lent.{lentFault, judgedIn, triedIn, madeIn, outputIn, judgeLeft, changeLeft};
+ghost use Rattle.gate_calls.specs.Reasons.{reasonAsked, reasonLeft};
 ghost use Rattle.gate_lists.specs.Which.{gateCalled, madeOf};
 ghost use Rattle.gate_lists.specs.Stands.{standsIn};
 use bundle::Made;
@@ -25,7 +27,9 @@ use bundle::try_bundle;
 use gate_marks::Scope;
 use mark_numbers::have_length;
 use mark_numbers::make_fresh;
+use reason_answer::Reason;
 use schedule::schedule_marks;
+use schedule::schedule_reason;
 use standing::place;
 
 // The gates: document 01's.
@@ -306,4 +310,41 @@ pub fn make_lists<'a>(
         places,
         companions,
     )
+}
+
+// What is told of a mark of one of the gates, as `reason_files` has it.
+fn reason_standing<'a>(
+    which: Which,
+    a: &'a [u8],
+    b: &'a [u8],
+    c: &'a [u8],
+    stand: &[usize],
+    mark: usize,
+    work: &mut [u32],
+) -> Reason
+    ensures { λ r. ⌜ r ≡ reasonIn (gateCalled which) (startStanding (now (a .entry)) (now (b .entry)) (now (c .entry)) (now (stand .entry))) (standing (now (a .entry)) (now (b .entry)) (now (c .entry)) (now (stand .entry))) (length (now (work .entry))) mark ⌝ }
+    ensures { λ _. ⌜ now (work .exit) ≡ workTold (gateCalled which) (standing (now (a .entry)) (now (b .entry)) (now (c .entry)) (now (stand .entry))) mark (now (work .entry)) ⌝ }
+{
+    match which {
+        Which::Schedule => schedule_reason(a, b, c, stand, mark, work),
+    }
+}
+
+// What is told of a mark of a bundle, in a lent workspace, whatever that holds.
+pub fn reason_lists(which: Which, bundle: &[u8], mark: usize, work: &mut [u32]) -> Reason
+    ensures { λ r. ⌜ r ≡ reasonAsked (gateCalled which) (now (bundle .entry)) (length (now (work .entry))) mark ⌝ }
+    ensures { λ r. ⌜ now (work .exit) ≡ reasonLeft (gateCalled which) (now (bundle .entry)) mark r (now (work .entry)) ⌝ }
+{
+    if work.len() < workspace(which) {
+        return Reason::Refused { refusal: 14 };
+    }
+    let n = file_count(which);
+    let fault = bundle_fault(bundle, n);
+    if fault != 0 {
+        return Reason::Refused { refusal: fault };
+    }
+    let mut stand = [0usize; 96];
+    stand_bundle(bundle, n, &mut stand);
+    let none = &bundle[..0];
+    reason_standing(which, bundle, none, none, &stand, mark, work)
 }

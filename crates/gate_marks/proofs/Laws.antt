@@ -9,7 +9,7 @@ use mathlib.Core.List.{List}
 use native.Mathlib.Nat.{eq-or-lt-of-le}
 use native.Mathlib.Numerals.{add-one}
 use native.Mathlib.Omega.{arith}
-use borrow.Author.Tests.{lt-ltb, le-ltb, eq-eqb, ltb-true, ltb-false}
+use borrow.Author.Tests.{lt-ltb, le-ltb, eq-eqb, ltb-true, ltb-false, eqb-true}
 use lib.ListN.{length}
 use lib.Dec.{ltb, eqb}
 use Rattle.json_bytes.proofs.Laws.{by-test, both-left, both-right}
@@ -17,16 +17,17 @@ use Rattle.parts.specs.Files.{File}
 use Rattle.bundle_bytes.specs.Pieces.{changed}
 use Rattle.bundle_bytes.proofs.Laws.{changed-other}
 use Rattle.mark_numbers.specs.declared.Mark.{Mark}
-use Rattle.mark_numbers.specs.Marks.{Marks, notJudged}
+use Rattle.mark_numbers.specs.Marks.{Marks, markIn, notJudged}
+use Rattle.mark_numbers.proofs.Laws.{mark-of-marks}
 use Rattle.table_file.specs.File.{Expected}
 use Rattle.rule_shape.specs.declared.Rule.{Rule}
 use Rattle.rule_shape.specs.Rule.{firstOf, secondOf, reads}
 use Rattle.gate_marks.specs.declared.Scope.{Scope}
 use Rattle.gate_marks.specs.declared.Scope.the-variants.{Full}
-use Rattle.gate_marks.specs.Gate.{Gate, ruleOf, markReads, readsFile}
+use Rattle.gate_marks.specs.Gate.{Gate, marksOf, ruleOf, markReads, readsFile}
 use Rattle.gate_marks.specs.Work.{roomStart, cellsIn, readOf, workRead}
 use Rattle.gate_marks.specs.Marks.{fileMark, ruleMarkAt, markAt, fullMarks}
-use Rattle.gate_marks.specs.Again.{touched, newMark, newMarks, neededFrom, needed, isNeeded}
+use Rattle.gate_marks.specs.Again.{asked, touched, isTouched, newMark, newMarks, neededFrom, needed, isNeeded}
 use Rattle.gate_marks.proofs.Rooms.{room-grows, work-length, cells-other, cells-read}
 use Rattle.gate_marks.proofs.Reading.{by-last}
 
@@ -75,13 +76,16 @@ module _ (g : Gate) (m : ℕ) (files others : ℕ → File) where
       same-mark (g .files) m (firstOf (ruleOf g m)) (secondOf (ruleOf g m)) _ _ _ _ (λ l. ap (fileMark (g .expected m)) (own l))
       (λ l a b. let same = both l a b in rw (same .0, same .1))
 
+  pub mark-read : ((k : ℕ) → k < g .files → readsFile g m k ≡ true → files k ≡ others k) → markAt g m files ≡ markAt g m others
+  mark-read same =
+      mark-by (λ l. same m l (own-reads (g .files) (g .rule) m l))
+      (λ l a b. (same _ a (first-reads (g .files) (g .rule) m l), same _ b (second-reads (g .files) (g .rule) m l)))
+
   pub mark-same : ((k : ℕ) → readsFile g m k ≡ true → files k ≡ others k) → markAt g m files ≡ markAt g m others
-  mark-same same =
-      mark-by (λ l. same m (own-reads (g .files) (g .rule) m l))
-      (λ l _ _. (same _ (first-reads (g .files) (g .rule) m l), same _ (second-reads (g .files) (g .rule) m l)))
+  mark-same same = mark-read (λ k _ e. same k e)
 
   pub mark-below : ((k : ℕ) → k < g .files → files k ≡ others k) → markAt g m files ≡ markAt g m others
-  mark-below same = mark-by (same m) (λ _ a b. (same _ a, same _ b))
+  mark-below same = mark-read (λ k l _. same k l)
 
 -- and stays as it was where a file is changed that it does not read
 pub mark-keeps : (g : Gate) (m : ℕ) (files : ℕ → File) (k : ℕ) (f : File) → readsFile g m k ≡ false → markAt g m (changed files k f) ≡ markAt g m files
@@ -107,6 +111,16 @@ module _ (n : ℕ) (rule : ℕ → Rule) (scope : Scope) (file : ℕ) where
       or-later true e = refl
       or-later false e = e
 
+  -- and one that is found is there
+  wanted-some : (left at : ℕ) → neededFrom n rule scope file left at ≡ true → (m : ℕ) × (touched n rule scope m ≡ true) × (markReads n rule m file ≡ true)
+  unfolding neededFrom
+  wanted-some zero at e = absurd (true≢false (sym e))
+  wanted-some (suc left) at e = go (touched n rule scope at && markReads n rule at file) refl e (wanted-some left (suc at))
+    where
+      go : (t : Bool) → (touched n rule scope at && markReads n rule at file) ≡ t → (elim t [ true ↦ true | false ↦ neededFrom n rule scope file left (suc at) ]) ≡ true → (neededFrom n rule scope file left (suc at) ≡ true → (m : ℕ) × (touched n rule scope m ≡ true) × (markReads n rule m file ≡ true)) → (m : ℕ) × (touched n rule scope m ≡ true) × (markReads n rule m file ≡ true)
+      go true q h later = (at, both-left (touched n rule scope at) (markReads n rule at file) q, both-right (touched n rule scope at) (markReads n rule at file) q)
+      go false q h later = later h
+
   pub needed-by : (count m : ℕ) → m < n + count → touched n rule scope m ≡ true → markReads n rule m file ≡ true → needed n count rule scope file ≡ true
   unfolding needed
   needed-by count m l e r = wanted-from (n + count) 0 m (omega arith) (omega arith) (rw (e, r))
@@ -115,6 +129,51 @@ module _ (n : ℕ) (rule : ℕ → Rule) (scope : Scope) (file : ℕ) where
 pub all-needed : (g : Gate) (f : ℕ) → f < g .files → isNeeded g Full f ≡ true
 unfolding touched
 all-needed g f l = needed-by (g .files) (g .rule) Full f (g .rules) f (omega arith) refl (own-reads (g .files) (g .rule) f l)
+
+-- ---- where one mark is asked for, it is judged, and so are those of the files that it reads
+module _ (g : Gate) (m : ℕ) where
+  asked-itself : isTouched g (Scope.Mark m) m ≡ true
+  unfolding touched asked
+  asked-itself = rw (eq-eqb m m refl)
+
+  asked-own : (k : ℕ) → k < g .files → readsFile g m k ≡ true → isTouched g (Scope.Mark m) k ≡ true
+  unfolding touched asked
+  asked-own k l e = rw (lt-ltb k (g .files) l, e) (or-true (eqb k m))
+
+  -- no other file is needed
+  own-only : (x k : ℕ) → x < g .files → readsFile g x k ≡ true → x ≡ k
+  unfolding markReads
+  own-only x k l r = eqb-true x k (rw (lt-ltb x (g .files) l) at r)
+
+  asked-reads : (x k : ℕ) → asked (g .files) (g .rule) m x ≡ true → readsFile g x k ≡ true → readsFile g m k ≡ true
+  unfolding asked
+  asked-reads x k t r = go (eqb x m) refl t
+    where
+      go : (b : Bool) → eqb x m ≡ b → (b || (ltb x (g .files) && readsFile g m x)) ≡ true → readsFile g m k ≡ true
+      go true q h = rw (eqb-true x m q) at r
+      go false q h =
+          rw (own-only x k (ltb-true x (g .files) (both-left (ltb x (g .files)) (readsFile g m x) h)) r) at (both-right (ltb x (g .files)) (readsFile g m x) h)
+
+  pub asked-only : (k : ℕ) → isNeeded g (Scope.Mark m) k ≡ true → readsFile g m k ≡ true
+  unfolding needed touched
+  asked-only k e =
+      let some = wanted-some (g .files) (g .rule) (Scope.Mark m) k (g .files + g .rules) 0 e in
+      asked-reads (some .0) k (some .1) (some .2)
+
+  module _ (few : m < marksOf g) where
+    pub asked-needed : (k : ℕ) → readsFile g m k ≡ true → isNeeded g (Scope.Mark m) k ≡ true
+    unfolding marksOf
+    asked-needed k e = needed-by (g .files) (g .rule) (Scope.Mark m) k (g .rules) m few asked-itself e
+
+    module _ (files : ℕ → File) (handed : Marks) where
+      pub asked-mark : markIn (newMarks g (Scope.Mark m) files handed) m ≡ markAt g m files
+      unfolding newMarks newMark
+      asked-mark = mark-of-marks (marksOf g) (newMark g (Scope.Mark m) files handed) m few ∙ rw (asked-itself, newMark)
+
+      pub asked-file : (k : ℕ) → k < g .files → readsFile g m k ≡ true → markIn (newMarks g (Scope.Mark m) files handed) k ≡ fileMark (g .expected k) (files k)
+      unfolding newMarks newMark markAt marksOf
+      asked-file k l e =
+          mark-of-marks (marksOf g) (newMark g (Scope.Mark m) files handed) k (omega arith) ∙ rw (asked-own k l e, lt-ltb k (g .files) l, newMark)
 
 -- ---- what is left in the list of cells
 module _ (expected : ℕ → Expected) (needed : ℕ → Bool) (files : ℕ → File) (lent : List ℕ) where

@@ -3,13 +3,13 @@
 -- Assumes nothing.
 use Prim.Native.Nat.{ℕ, zero, suc, _+_, _-_, _*_, _≤_, _<_}
 use mathlib.Core.Path.{_≡_, refl, sym, ap, _∙_}
-use mathlib.Core.Bool.{Bool, true, false, cond, true≢false}
+use mathlib.Core.Bool.{Bool, true, false, cond, _&&_, true≢false}
 use mathlib.Core.Logic.{_⊎_, inl, inr, ⊎-elim}
 use mathlib.Core.List.{List, [], _∷_, _++_, append-nil}
 use native.Mathlib.Nat.{eq-or-lt-of-le, le-of-suc-le-suc}
 use native.Mathlib.Numerals.{add-one}
 use native.Mathlib.Omega.{arith}
-use borrow.Author.Tests.{lt-ltb, le-leb, lt-leb, eq-eqb, ne-eqb, ltb-true, ltb-false, leb-true}
+use borrow.Author.Tests.{lt-ltb, le-ltb, le-leb, lt-leb, eq-eqb, ne-eqb, ltb-true, ltb-false, leb-true}
 use lib.ListN.{length, getD, set, take, drop, drop-of-length-le}
 use lib.Seq.{drop-cons, set-at, append-snoc, getD-set-same, getD-set-other}
 use lib.Dec.{leb, ltb, eqb}
@@ -23,6 +23,7 @@ use Rattle.table_rows.proofs.Laws.{fields-in-length}
 use Rattle.table_file.specs.File.{Expected, formFrom}
 use Rattle.table_file.proofs.Kept.{file-length}
 use Rattle.found_marks.specs.Found.{countIn}
+use Rattle.found_marks.proofs.Laws.{and-false}
 use Rattle.gate_marks.specs.Gate.{expectedIn}
 use Rattle.gate_marks.specs.Work.{zeros, widthOf, roomFor, roomOf, roomStart, cellsIn, readOf, workAfter}
 use Rattle.gate_marks.specs.Code.{roomIn, roomsIn, Starts}
@@ -208,3 +209,29 @@ module _ (forms fields names fixed : List ℕ) (n : ℕ) where
 
   pub room-enough : (limit : ℕ) {t : Bool} → t ≡ leb (roomsIn forms fields n) limit → t ≡ true → roomStart (expectedIn forms fields names fixed) n ≤ limit
   room-enough limit t-is e = leb-true _ limit (room-by limit t-is true e)
+
+-- ---- one file's cells, as the code takes them from the list: the names and the fixed text make no difference
+pub cells-by : (forms fields names fixed work : List ℕ) (k : ℕ) → cellsIn (expectedIn forms fields [] []) work k ≡ cellsIn (expectedIn forms fields names fixed) work k
+unfolding cellsIn
+cells-by forms fields names fixed work k = rw (same k, same (suc k))
+  where
+    same : (j : ℕ) → roomStart (expectedIn forms fields [] []) j ≡ roomStart (expectedIn forms fields names fixed) j
+    same j = sym (rooms-are forms fields [] [] j) ∙ rooms-are forms fields names fixed j
+
+module _ (forms fields work : List ℕ) (k : ℕ) where
+  pub cells-past : 32 ≤ k → [] ≡ cond (ltb k 32) (cellsIn (expectedIn forms fields [] []) work k) []
+  cells-past l = rw (le-ltb k 32 l)
+
+  module _ (few : k < 32) where
+    -- they end past the end of the list
+    pub cells-short : {t : Bool} → t ≡ leb (roomsIn forms fields (k + 1)) (length work) → t ≡ false → [] ≡ cond (ltb k 32) (cellsIn (expectedIn forms fields [] []) work k) []
+    unfolding cellsIn partOf
+    cells-short t-is e =
+        let past : leb (roomStart (expectedIn forms fields [] []) (suc k)) (length work) ≡ false = rw add-one at (room-by forms fields [] [] (k + 1) (length work) t-is false e) in
+        rw (lt-ltb k 32 few, past, and-false (leb (roomStart (expectedIn forms fields [] []) k) (roomStart (expectedIn forms fields [] []) (suc k))))
+
+    -- they stand from one start up to the next
+    pub cells-found : (starts : List ℕ) → Starts (roomsIn forms fields) (k + 1) starts → {r : List ℕ} → r ≡ partOf work (getD starts k 0) (getD starts (k + 1) 0) → r ≡ cond (ltb k 32) (cellsIn (expectedIn forms fields [] []) work k) []
+    unfolding cellsIn
+    cells-found starts are r-is =
+        r-is ∙ rw (are .at k (omega arith), are .at (k + 1) (omega arith), rooms-are forms fields [] [] k, rooms-are forms fields [] [] (k + 1), lt-ltb k 32 few, add-one k)

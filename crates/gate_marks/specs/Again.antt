@@ -1,10 +1,11 @@
 -- What is judged again, and what is read for that: a full judgement judges every mark; a change those that read the changed
--- file. Only files that these marks read are read, each once.
+-- file; and where one mark is asked for, that one alone, with the marks of the files that it reads. Only files that these marks
+-- read are read, each once.
 use Prim.Native.Nat.{ℕ, zero, suc, _+_}
-use mathlib.Core.Bool.{Bool, true, false, cond, _&&_}
+use mathlib.Core.Bool.{Bool, true, false, cond, _&&_, _||_}
 use mathlib.Core.List.{List}
 use lib.ListN.{length}
-use lib.Dec.{leb}
+use lib.Dec.{ltb, leb, eqb}
 use Rattle.parts.specs.Files.{File}
 use Rattle.mark_numbers.specs.declared.Mark.{Mark}
 use Rattle.mark_numbers.specs.Marks.{Marks, marksFrom, markIn, haveLength}
@@ -15,10 +16,15 @@ use Rattle.gate_marks.specs.Gate.{Gate, marksOf, markReads}
 use Rattle.gate_marks.specs.Work.{roomStart, workRead}
 use Rattle.gate_marks.specs.Marks.{markAt}
 
--- whether mark m is judged, of n files' marks and those of the rules
+-- whether m is the mark that is asked for, or that of a file which this one reads; of n files' marks and those of the rules
+unfoldable pub asked : ℕ → (ℕ → Rule) → ℕ → ℕ → Bool
+asked n rule mark m = eqb m mark || (ltb m n && markReads n rule mark m)
+
+-- whether mark m is judged
 unfoldable pub touched : ℕ → (ℕ → Rule) → Scope → ℕ → Bool
 touched n rule Full m = true
 touched n rule (Change k) m = markReads n rule m k
+touched n rule (Scope.Mark mark) m = asked n rule mark m
 
 abbrev pub isTouched : Gate → Scope → ℕ → Bool
 isTouched g scope m = touched (g .files) (g .rule) scope m

@@ -3,10 +3,11 @@
 // read once, into a place of its own in a lent list of cells, and each rule is judged over the cells of
 // the files that its row names.
 ghost use mathlib.Core.Path.{_≡_};
-ghost use mathlib.Core.Bool.{true, _&&_};
+ghost use mathlib.Core.Bool.{true, cond, _&&_};
+ghost use mathlib.Core.List.{[]};
 ghost use Prim.Native.Nat.{_+_, _-_, _*_, _/_, _≤_, _<_};
 ghost use lib.ListN.{length, set};
-ghost use lib.Dec.{leb};
+ghost use lib.Dec.{ltb, leb};
 ghost use Rattle.parts.specs.Files.{newFile};
 ghost use Rattle.standing.specs.Standing.{standing};
 ghost use Rattle.bundle_bytes.specs.Pieces.{written};
@@ -15,10 +16,11 @@ ghost use Rattle.table_file.specs.File.{fileOf};
 ghost use Rattle.rule_shape.specs.Rule.{ruleFrom};
 ghost use Rattle.found_marks.specs.Found.{countIn, tableIn, foundMark};
 ghost use Rattle.gate_marks.specs.Gate.{gateFrom, expectedIn, markReads};
-ghost use Rattle.gate_marks.specs.Work.{zeros, roomStart, workRead};
+ghost use Rattle.gate_marks.specs.Work.{zeros, roomStart, cellsIn, workRead};
 ghost use Rattle.gate_marks.specs.Marks.{markRead};
-ghost use Rattle.gate_marks.specs.Again.{touched, needed, newMarks, workJudged, canJudge, marksAfter, workAfterwards};
+ghost use Rattle.gate_marks.specs.Again.{asked, touched, needed, newMarks, workJudged, canJudge, marksAfter, workAfterwards};
 ghost use Rattle.gate_marks.specs.Code.{roomIn, roomsIn, Starts, ReadTo, putMark};
+use found_marks::cells_of;
 use found_marks::count_of;
 use found_marks::mark_at;
 use mark_numbers::Mark;
@@ -37,10 +39,12 @@ use table_rows::field_count;
 use table_rows::first_field;
 use table_rows::rows_after;
 
-// What is judged: every mark, or after a change those that read the changed file.
+// What is judged: every mark, after a change those that read the changed file, or one mark alone with
+// those of the files that it reads.
 pub enum Scope {
     Full,
     Change { file: usize },
+    Mark { mark: usize },
 }
 
 // How many cells file k has: those of one record for a singleton, of 4,096 for any other table.
@@ -80,6 +84,22 @@ fn fill_starts(forms: &[u32], fields: &[u32], n: usize, limit: usize, starts: &m
         starts[file] = start;
     }
     true
+}
+
+// The cells of file k in a list of those of a whole set, whatever its names and its fixed text; none of
+// a file past the 32nd.
+pub fn cells_in<'a>(forms: &[u32], fields: &[u32], work: &'a [u32], k: usize) -> &'a [u32]
+    ensures { λ r. ⌜ now r ≡ cond (ltb k 32) (cellsIn (expectedIn (now (forms .entry)) (now (fields .entry)) [] []) (now (work .entry)) k) [] ⌝ }
+{
+    if 32 <= k {
+        return &work[..0];
+    }
+    let mut starts = [0usize; 33];
+    let limit = work.len();
+    if fill_starts(forms, fields, k + 1, limit, &mut starts) {
+        return cells_of(work, &starts, k);
+    }
+    &work[..0]
 }
 
 fn clear(cells: &mut [u32])
@@ -180,6 +200,19 @@ fn reads_file(n: usize, rules: &[u32], m: usize, k: usize) -> bool
     second_file(rules, i) == k
 }
 
+// Whether m is a mark that is asked for, or that of a file which this one reads.
+fn is_asked(n: usize, rules: &[u32], mark: usize, m: usize) -> bool
+    ensures { λ r. ⌜ r ≡ asked n (ruleFrom (now (rules .entry))) mark m ⌝ }
+{
+    if m == mark {
+        return true;
+    }
+    if n <= m {
+        return false;
+    }
+    reads_file(n, rules, mark, m)
+}
+
 // Whether mark m is judged.
 fn is_touched(n: usize, rules: &[u32], scope: Scope, m: usize) -> bool
     ensures { λ r. ⌜ r ≡ touched n (ruleFrom (now (rules .entry))) scope m ⌝ }
@@ -187,6 +220,7 @@ fn is_touched(n: usize, rules: &[u32], scope: Scope, m: usize) -> bool
     match scope {
         Scope::Full => true,
         Scope::Change { file } => reads_file(n, rules, m, file),
+        Scope::Mark { mark } => is_asked(n, rules, mark, m),
     }
 }
 

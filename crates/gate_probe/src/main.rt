@@ -8,6 +8,11 @@
 //             the seed and 7 i together, its lowest eight bits
 //   3 lookup: 0 present, 1 omitted or 2 refused, refusal, length, the file
 //   4, 5, 6:  as 0, 1 and 2, in a lent workspace that holds other numbers than 0
+//   7 reason: for the mark whose number stands in the place of the file number, nine numbers: 0 and the
+//             refusal; 1 for one that holds; 2 and the unreadable file; 3, kind, place and companion;
+//             4 or, for a missing target, 5, then file, record, companion, field, start, length and the
+//             file searched; 0 for the rest
+//   8:        as 7, in such a workspace
 // The program ends where the input does, and at a case that is too long or asks nothing known.
 ghost use Prim.Native.Nat.{_≤_};
 ghost use mathlib.Core.Path.{_≡_};
@@ -24,12 +29,16 @@ use gate::judge;
 use gate::judge_in;
 use gate::make_change;
 use gate::make_in;
+use gate::reason;
+use gate::reason_in;
 use gate::try_change;
 use gate::try_in;
 use libc::STDIN_FILENO;
 use libc::STDOUT_FILENO;
 use parts::part;
 use program_io::fill;
+use reason_answer::Reason;
+use reason_answer::Shown;
 
 // Fills the front of a buffer, where it is long enough.
 fn fill_front(buf: &mut [u8], n: usize) -> bool {
@@ -249,6 +258,71 @@ fn look_up(bundle: &[u8], k: usize) -> bool {
     false
 }
 
+fn put_record(out: &mut [u8], tag: u32, shown: Shown) {
+    put_word(out, 0, tag);
+    put_word(out, 4, low(shown.file));
+    put_word(out, 8, low(shown.record));
+    put_word(out, 12, low(shown.companion));
+}
+
+fn put_field(out: &mut [u8], shown: Shown, searched: usize) {
+    put_word(out, 16, low(shown.field));
+    put_word(out, 20, low(shown.start));
+    put_word(out, 24, low(shown.length));
+    put_word(out, 28, low(searched));
+}
+
+fn put_shown(out: &mut [u8], tag: u32, shown: Shown, searched: usize) {
+    put_record(out, tag, shown);
+    put_field(out, shown, searched);
+}
+
+// Puts a number behind its tag.
+fn put_told(out: &mut [u8], tag: u32, number: u32) {
+    put_word(out, 0, tag);
+    put_word(out, 4, number);
+}
+
+fn put_own_mark(out: &mut [u8], kind: u32, place: usize, companion: usize) {
+    put_told(out, 3, kind);
+    put_word(out, 8, low(place));
+    put_word(out, 12, low(companion));
+}
+
+fn put_reason(out: &mut [u8], reason: Reason) {
+    match reason {
+        Reason::Refused { refusal } => put_told(out, 0, refusal),
+        Reason::Holds => put_told(out, 1, 0),
+        Reason::NotJudged { file } => put_told(out, 2, low(file)),
+        Reason::OwnMark {
+            kind,
+            place,
+            companion,
+        } => put_own_mark(out, kind, place, companion),
+        Reason::Broken { shown } => put_shown(out, 4, shown, 0),
+        Reason::Missing { shown, searched } => put_shown(out, 5, shown, searched),
+    }
+}
+
+// The reason in a workspace with numbers in it that no file leaves there.
+fn lent_reason(bundle: &[u8], mark: usize) -> Reason {
+    let mut work = [0xA5A5A5A5u32; 794702];
+    reason_in(bundle, mark, &mut work)
+}
+
+fn reason_of(lent: bool, bundle: &[u8], mark: usize) -> Reason {
+    if lent {
+        return lent_reason(bundle, mark);
+    }
+    reason(bundle, mark)
+}
+
+fn tell(lent: bool, bundle: &[u8], mark: usize) -> bool {
+    let mut out = [0u8; 36];
+    put_reason(&mut out, reason_of(lent, bundle, mark));
+    io::write_all(STDOUT_FILENO, &out)
+}
+
 fn change(
     call: u32,
     lent: bool,
@@ -293,15 +367,18 @@ fn answer(buf: &mut [u8], news: &mut [u8], out: &mut [u8]) -> bool {
     let w = word_at(&head, 16) as usize;
     let z = word_at(&head, 20) as usize;
     let seed = word_at(&head, 24) as usize;
-    if 6 < op {
+    if 8 < op {
         return false;
     }
-    let lent = 3 < op;
-    let call = call_of(op);
     if !fill_front(buf, n) {
         return false;
     }
     let bundle = part(buf, 0, n);
+    if 6 < op {
+        return tell(op == 8, bundle, k);
+    }
+    let lent = 3 < op;
+    let call = call_of(op);
     if call == 0 {
         let none = part(bundle, 0, 0);
         return write_verdict(verdict_of(0, lent, bundle, fresh(), k, false, none, out));

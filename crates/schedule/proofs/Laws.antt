@@ -27,6 +27,8 @@ use Rattle.gate_marks.specs.declared.Scope.{Scope}
 use Rattle.gate_marks.specs.Gate.{Gate, gateOf, marksOf, expectedIn, gateFrom}
 use Rattle.gate_marks.specs.Work.{roomFor, roomOf, roomStart}
 use Rattle.gate_marks.specs.Again.{workspaceOf, canJudge, marksAfter, workAfterwards}
+use Rattle.reason_answer.specs.declared.Reason.{Reason}
+use Rattle.reason.specs.Reason.{reasonIn, workTold}
 use Rattle.schedule.specs.Schedule.{due, free, expectedFiles, schedule, formNumber, formRow, fileForms}
 
 below-or-not : (P : ℕ → Type 0) (n : ℕ) → ((k : ℕ) → k < n → P k) → ((k : ℕ) → n ≤ k → P k) → (k : ℕ) → P k
@@ -137,3 +139,9 @@ module _ {forms fields names fixed rows values texts : List ℕ} (f : forms ≡ 
       → (could ≡ canJudge schedule lent handed) × ((marks ≡ marksAfter schedule scope files lent handed) × (last ≡ workAfterwards schedule scope files handed work))
   judged-so scope files lent handed work (a, (b, c)) =
       (a ∙ ap (λ g. canJudge g lent handed) described, (b ∙ ap (λ g. marksAfter g scope files lent handed) described, c ∙ ap (λ g. workAfterwards g scope files handed work) described))
+
+  pub told-so : (offset : ℕ → ℕ) (files : ℕ → File) (lent m : ℕ) (work : List ℕ) {told : Reason} {last : List ℕ}
+      → (told ≡ reasonIn (gateFrom forms fields names fixed rows values texts) offset files lent m) × (last ≡ workTold (gateFrom forms fields names fixed rows values texts) files m work)
+      → (told ≡ reasonIn schedule offset files lent m) × (last ≡ workTold schedule files m work)
+  told-so offset files lent m work (a, b) =
+      (a ∙ ap (λ g. reasonIn g offset files lent m) described, b ∙ ap (λ g. workTold g files m work) described)

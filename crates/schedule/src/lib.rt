@@ -1,12 +1,15 @@
-// Document 01's gate: the marks of a set of 20 files, wherever these stand.
+// Document 01's gate: the marks of a set of 20 files, wherever these stand, and what is told of one.
 ghost use mathlib.Core.Path.{_≡_};
 ghost use lib.ListN.{length};
-ghost use Rattle.standing.specs.Standing.{standing};
+ghost use Rattle.standing.specs.Standing.{standing, startStanding};
 ghost use Rattle.mark_numbers.specs.Marks.{marksIn};
 ghost use Rattle.gate_marks.specs.Again.{canJudge, marksAfter, workAfterwards};
+ghost use Rattle.reason.specs.Reason.{reasonIn, workTold};
 ghost use Rattle.schedule.specs.Schedule.{schedule, fileForms};
 use gate_marks::Scope;
 use gate_marks::judge_files;
+use reason::reason_files;
+use reason_answer::Reason;
 use schedule_rules::rule_rows;
 use table_fields::field_names;
 use table_fields::field_rows;
@@ -116,5 +119,41 @@ pub fn schedule_marks<'a>(
         kinds,
         places,
         companions,
+    )
+}
+
+// What is told of a mark, from the files that stand in three slices.
+pub fn schedule_reason<'a>(
+    a: &'a [u8],
+    b: &'a [u8],
+    c: &'a [u8],
+    stand: &[usize],
+    mark: usize,
+    work: &mut [u32],
+) -> Reason
+    ensures { λ r. ⌜ r ≡ reasonIn schedule (startStanding (now (a .entry)) (now (b .entry)) (now (c .entry)) (now (stand .entry))) (standing (now (a .entry)) (now (b .entry)) (now (c .entry)) (now (stand .entry))) (length (now (work .entry))) mark ⌝ }
+    ensures { λ _. ⌜ now (work .exit) ≡ workTold schedule (standing (now (a .entry)) (now (b .entry)) (now (c .entry)) (now (stand .entry))) mark (now (work .entry)) ⌝ }
+{
+    let forms = file_forms();
+    let fields = field_rows();
+    let names = field_names();
+    let fixed = file_type();
+    let rules = rule_rows();
+    let values = value_places();
+    let texts = value_texts();
+    reason_files(
+        a,
+        b,
+        c,
+        stand,
+        &forms,
+        &fields,
+        &names,
+        &fixed,
+        &rules,
+        &values,
+        &texts,
+        mark,
+        work,
     )
 }

@@ -6,13 +6,13 @@ use mathlib.Core.Bool.{Bool, true, false, cond}
 use mathlib.Core.List.{List, []}
 use native.Mathlib.Omega.{arith}
 use native.Mathlib.Nat.{add-zero}
-use borrow.Author.Tests.{lt-ltb, eq-eqb, ne-eqb}
+use borrow.Author.Tests.{lt-ltb, le-leb, lt-leb, eq-eqb, ne-eqb}
 use lib.ListN.{length, set, length-set, List·getD-eq-default}
 use lib.Seq.{getD-set-same, getD-set-other}
-use lib.Dec.{ltb}
+use lib.Dec.{ltb, leb}
 use Rattle.parts.specs.Part.{partOf}
 use Rattle.parts.specs.Files.{Left, Given, isPresent, bytesOf}
-use Rattle.standing.specs.Standing.{numberOf, sliceOf, isThere, standing, placed}
+use Rattle.standing.specs.Standing.{numberOf, sliceOf, isThere, standing, startStanding, placed}
 
 -- ---- past the end of the list there are only numbers that are 0
 pub number-past : (stand : List ℕ) (k j : ℕ) → length stand ≤ 3 * k + j → 0 ≡ numberOf stand k j
@@ -60,6 +60,17 @@ module _ (a b c : List ℕ) (which : ℕ) where
   pub slice-third : (which ≡ 1 → ⊥) → (which ≡ 2 → ⊥) → sliceOf a b c which ≡ c
   unfolding sliceOf
   slice-third m n = rw (ne-eqb which 1 m, ne-eqb which 2 n)
+
+-- ---- where a file starts in its slice, as the code finds it
+module _ (a b c stand : List ℕ) (k which from long : ℕ) (which-is : which ≡ numberOf stand k 0) (from-is : from ≡ numberOf stand k 1)
+    (long-is : long ≡ length (sliceOf a b c which)) where
+  pub starts-past : long < from → 0 ≡ startStanding a b c stand k
+  unfolding startStanding
+  starts-past l = rw (← which-is, ← from-is, ← long-is, lt-leb from long l)
+
+  pub starts-within : from ≤ long → from ≡ startStanding a b c stand k
+  unfolding startStanding
+  starts-within l = rw (← which-is, ← from-is, ← long-is, le-leb from long l)
 
 -- ---- after file k was put somewhere
 module _ (stand : List ℕ) (k which from to : ℕ) where
@@ -116,3 +127,13 @@ module _ (stand : List ℕ) (k which from to : ℕ) where
   unfolding standing isThere
   placed-other a b c j n =
       rw (number-kept j 0 n (omega arith), number-kept j 1 n (omega arith), number-kept j 2 n (omega arith))
+
+  -- where it starts, and where every other does
+  module _ (a b c : List ℕ) where
+    pub start-placed : k < length stand / 3 → startStanding a b c (placed stand k which from to) k ≡ cond (leb from (length (sliceOf a b c which))) from 0
+    unfolding startStanding
+    start-placed l = rw (which-placed l, from-placed l)
+
+    pub start-kept : (j : ℕ) → (j ≡ k → ⊥) → startStanding a b c (placed stand k which from to) j ≡ startStanding a b c stand j
+    unfolding startStanding
+    start-kept j n = rw (number-kept j 0 n (omega arith), number-kept j 1 n (omega arith))

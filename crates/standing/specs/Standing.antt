@@ -3,8 +3,8 @@
 use Prim.Native.Nat.{ℕ, _+_, _*_}
 use mathlib.Core.Bool.{Bool, cond, not}
 use mathlib.Core.List.{List}
-use lib.ListN.{getD, set}
-use lib.Dec.{eqb}
+use lib.ListN.{length, getD, set}
+use lib.Dec.{leb, eqb}
 use Rattle.parts.specs.Part.{partOf}
 use Rattle.parts.specs.Files.{File, Left, Given}
 
@@ -22,6 +22,11 @@ isThere stand k = not (eqb (numberOf stand k 0) 0)
 unfoldable pub standing : List ℕ → List ℕ → List ℕ → List ℕ → ℕ → File
 standing a b c stand k =
     cond (isThere stand k) (Given (partOf (sliceOf a b c (numberOf stand k 0)) (numberOf stand k 1) (numberOf stand k 2))) Left
+
+-- where it starts in its slice; 0 where the slice ends before that
+unfoldable pub startStanding : List ℕ → List ℕ → List ℕ → List ℕ → ℕ → ℕ
+startStanding a b c stand k =
+    cond (leb (numberOf stand k 1) (length (sliceOf a b c (numberOf stand k 0)))) (numberOf stand k 1) 0
 
 -- the list with file k put somewhere
 unfoldable pub placed : List ℕ → ℕ → ℕ → ℕ → ℕ → List ℕ

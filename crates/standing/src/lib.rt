@@ -6,7 +6,7 @@ ghost use Prim.Native.Nat.{_+_, _*_, _≤_, _<_, _/_};
 ghost use lib.ListN.{length};
 ghost use lib.Dec.{ltb};
 ghost use Rattle.parts.specs.Files.{bytesOf};
-ghost use Rattle.standing.specs.Standing.{numberOf, isThere, standing, placed};
+ghost use Rattle.standing.specs.Standing.{numberOf, sliceOf, isThere, standing, startStanding, placed};
 use parts::part;
 
 // Number j of file k; 0 past the end of the list.
@@ -53,6 +53,31 @@ pub fn part_standing<'a>(
         return part(b, from, to);
     }
     part(c, from, to)
+}
+
+// How long the slice is that a number stands for.
+fn slice_length(a: &[u8], b: &[u8], c: &[u8], which: usize) -> usize
+    ensures { λ r. ⌜ (r ≡ length (sliceOf (now (a .entry)) (now (b .entry)) (now (c .entry)) which)) × (r < 9223372036854775808) ⌝ }
+{
+    if which == 1 {
+        return a.len();
+    }
+    if which == 2 {
+        return b.len();
+    }
+    c.len()
+}
+
+// Where file k starts in its slice; 0 where the slice ends before that.
+pub fn start_standing(a: &[u8], b: &[u8], c: &[u8], stand: &[usize], k: usize) -> usize
+    ensures { λ r. ⌜ (r ≡ startStanding (now (a .entry)) (now (b .entry)) (now (c .entry)) (now (stand .entry)) k) × (r < 9223372036854775808) ⌝ }
+{
+    let which = number_of(stand, k, 0);
+    let from = number_of(stand, k, 1);
+    if slice_length(a, b, c, which) < from {
+        return 0;
+    }
+    from
 }
 
 // Puts file k somewhere, where the list has numbers for it.

@@ -7,6 +7,8 @@ mod gate_harness;
 mod harness;
 mod places;
 mod points;
+mod reasons;
+mod reasons_harness;
 mod rules;
 mod tables_harness;
 

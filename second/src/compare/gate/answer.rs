@@ -6,11 +6,23 @@ use super::case::LONGEST;
 use crate::board::{Board, Mark, MARKS};
 use crate::compare::wire::{read_slice_within, read_word, write_words};
 use crate::gate::Verdict;
+use crate::reason::{Reason, Shown};
 
 /// A board is sent as 81 triples of 32-bit numbers: kind, place, companion.
 pub const BOARD_BYTES: usize = 12 * MARKS;
 
 const MOST_MARKS_SHOWN: usize = 10;
+
+/// A reason is sent as nine numbers: a tag and eight that are its own, those
+/// that it has no use for 0.
+pub type Nine = [u32; 9];
+
+pub const REFUSED: u32 = 0;
+pub const HOLDING: u32 = 1;
+pub const NOT_JUDGED: u32 = 2;
+pub const OWN_MARK: u32 = 3;
+pub const BROKEN: u32 = 4;
+pub const MISSING: u32 = 5;
 
 #[derive(Clone, Debug, PartialEq, Eq)]
 pub enum Answer {
@@ -21,6 +33,8 @@ pub enum Answer {
     Made { refusal: u32, length: u32, board: Board, output: Vec<u8> },
     /// Of a lookup.
     Found(Part),
+    /// Of the question for a reason.
+    Told(Nine),
 }
 
 /// State 0 is present, 1 omitted, 2 refused. The length is the one answered.
@@ -35,6 +49,10 @@ pub struct Part {
 impl Answer {
     pub(super) fn judged(verdict: Verdict) -> Answer {
         Answer::Judged { refusal: verdict.refusal, board: verdict.board }
+    }
+
+    pub(super) fn told(reason: Reason) -> Answer {
+        Answer::Told(nine(reason))
     }
 
     pub(super) fn write(&self, out: &mut impl Write) -> io::Result<()> {
@@ -52,6 +70,7 @@ impl Answer {
                 write_words(out, &[*state, *refusal, *length])?;
                 out.write_all(bytes)
             }
+            Answer::Told(nine) => write_words(out, nine),
         }
     }
 
@@ -79,24 +98,34 @@ impl Answer {
         Ok(Answer::Found(Part { state, refusal, length, bytes }))
     }
 
+    pub(super) fn read_told(input: &mut impl Read) -> io::Result<Answer> {
+        let mut nine = [0; 9];
+        for word in &mut nine {
+            *word = read_word(input)?;
+        }
+        Ok(Answer::Told(nine))
+    }
+
     /// The refusal, or 0.
     pub fn refusal(&self) -> u32 {
         match self {
             Answer::Judged { refusal, .. } | Answer::Made { refusal, .. } => *refusal,
             Answer::Found(part) => part.refusal,
+            Answer::Told([REFUSED, refusal, ..]) => *refusal,
+            Answer::Told(_) => 0,
         }
     }
 
     fn board(&self) -> Option<&Board> {
         match self {
             Answer::Judged { board, .. } | Answer::Made { board, .. } => Some(board),
-            Answer::Found(_) => None,
+            Answer::Found(_) | Answer::Told(_) => None,
         }
     }
 
     fn bytes(&self) -> &[u8] {
         match self {
-            Answer::Judged { .. } => &[],
+            Answer::Judged { .. } | Answer::Told(_) => &[],
             Answer::Made { output, .. } => output,
             Answer::Found(part) => &part.bytes,
         }
@@ -110,8 +139,48 @@ impl Answer {
             Answer::Found(Part { state, refusal, length, .. }) => {
                 format!("state {state} refusal {refusal} length {length}")
             }
+            Answer::Told(nine) => shown_reason(nine),
         }
     }
+}
+
+fn nine(reason: Reason) -> Nine {
+    match reason {
+        Reason::Refused(refusal) => [REFUSED, refusal, 0, 0, 0, 0, 0, 0, 0],
+        Reason::Holds => [HOLDING, 0, 0, 0, 0, 0, 0, 0, 0],
+        Reason::NotJudged { file } => [NOT_JUDGED, word(file), 0, 0, 0, 0, 0, 0, 0],
+        Reason::OwnMark(Mark { kind, place, companion }) => {
+            [OWN_MARK, kind, place, companion, 0, 0, 0, 0, 0]
+        }
+        Reason::Broken(shown) => nine_of_shown(BROKEN, shown, 0),
+        Reason::Missing { shown, searched } => nine_of_shown(MISSING, shown, searched),
+    }
+}
+
+fn nine_of_shown(tag: u32, shown: Shown, searched: usize) -> Nine {
+    let Shown { file, record, companion, field, start, length } = shown;
+    let numbers = [file, record, companion, field, start, length, searched].map(word);
+    let [file, record, companion, field, start, length, searched] = numbers;
+    [tag, file, record, companion, field, start, length, searched, 0]
+}
+
+fn word(number: usize) -> u32 {
+    u32::try_from(number).expect("no number of a reason is beyond a bundle's length")
+}
+
+/// A reason's numbers, also such as no reason has.
+fn shown_reason(nine: &Nine) -> String {
+    let [tag, numbers @ ..] = nine;
+    let named = match *tag {
+        REFUSED => "refused",
+        HOLDING => "holds",
+        NOT_JUDGED => "not judged",
+        OWN_MARK => "own mark",
+        BROKEN => "broken",
+        MISSING => "missing",
+        _ => return format!("tag {tag} {numbers:?}"),
+    };
+    format!("{named} {numbers:?}")
 }
 
 pub(super) fn write_board(out: &mut impl Write, board: &Board) -> io::Result<()> {
@@ -204,6 +273,7 @@ mod tests {
             Answer::Judged { .. } => Answer::read_judged(&mut input),
             Answer::Made { output, .. } => Answer::read_made(&mut input, output.len() as u32),
             Answer::Found(_) => Answer::read_found(&mut input),
+            Answer::Told(_) => Answer::read_told(&mut input),
         };
         assert!(input.is_empty());
         back
@@ -212,7 +282,8 @@ mod tests {
     #[test]
     fn an_answer_comes_back_from_its_bytes() {
         let judged = Answer::Judged { refusal: 6, board: board() };
-        let lengths = [(judged, 976), (made(b"abcd"), 984), (found(2, b"[]"), 14)];
+        let told = Answer::Told([5, 1, 2, 3, 4, 5, 6, 7, u32::MAX]);
+        let lengths = [(judged, 976), (made(b"abcd"), 984), (found(2, b"[]"), 14), (told, 36)];
         for (answer, length) in lengths {
             let bytes = answered(&answer);
             assert_eq!(bytes.len(), length);
@@ -256,6 +327,40 @@ mod tests {
             differences(&found(2, b"[]"), &found(3, b"[]x")),
             ["  expected state 0 refusal 0 length 2", "  answered state 0 refusal 0 length 3"]
         );
+    }
+
+    const SHOWN: Shown =
+        Shown { file: 7, record: 2, companion: 1, field: 3, start: 252, length: 8 };
+
+    #[test]
+    fn a_reason_is_nine_numbers() {
+        let own = Mark { kind: 13, place: 2, companion: 1 };
+        for (reason, nine) in [
+            (Reason::Refused(7), [0, 7, 0, 0, 0, 0, 0, 0, 0]),
+            (Reason::Holds, [1, 0, 0, 0, 0, 0, 0, 0, 0]),
+            (Reason::NotJudged { file: 9 }, [2, 9, 0, 0, 0, 0, 0, 0, 0]),
+            (Reason::OwnMark(own), [3, 13, 2, 1, 0, 0, 0, 0, 0]),
+            (Reason::Broken(SHOWN), [4, 7, 2, 1, 3, 252, 8, 0, 0]),
+            (Reason::Missing { shown: SHOWN, searched: 6 }, [5, 7, 2, 1, 3, 252, 8, 6, 0]),
+        ] {
+            assert_eq!(Answer::told(reason), Answer::Told(nine));
+            let bytes: Vec<u8> = nine.iter().flat_map(|word| word.to_le_bytes()).collect();
+            assert_eq!(answered(&Answer::Told(nine)), bytes);
+        }
+    }
+
+    #[test]
+    fn another_reason_is_shown_whole() {
+        let right = Answer::told(Reason::Missing { shown: SHOWN, searched: 6 });
+        let wrong = Answer::Told([6, 0, 0, 0, 0, 0, 0, 0, 1]);
+        let lines = [
+            "  expected missing [7, 2, 1, 3, 252, 8, 6, 0]",
+            "  answered tag 6 [0, 0, 0, 0, 0, 0, 0, 1]",
+        ];
+        assert_eq!(differences(&right, &wrong), lines);
+        assert!(differences(&right, &right).is_empty());
+        let refused = Answer::told(Reason::Refused(3));
+        assert_eq!((refused.refusal(), right.refusal()), (3, 0));
     }
 
     #[test]

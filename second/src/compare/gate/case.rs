@@ -11,6 +11,7 @@ use crate::bundle::{file_part, file_state, FileState, LARGEST_BUNDLE};
 use crate::compare::run::{hex, Question};
 use crate::compare::wire::{read_first_word, read_slice_within, read_word, unsound, write_words};
 use crate::gate::{judge, make_change, try_change};
+use crate::reason::reason;
 
 pub const JUDGE: u32 = 0;
 pub const TRY: u32 = 1;
@@ -20,6 +21,10 @@ pub const LOOK_UP: u32 = 3;
 /// Added to an op whose call judges in a workspace that it is lent: the answer
 /// is the same.
 pub const LENT: u32 = 4;
+
+/// The reason of a mark has an op of its own for either memory.
+pub const REASON: u32 = 7;
+pub const REASON_LENT: u32 = 8;
 
 /// No bundle, file or output of a case is longer: one byte over the limit.
 pub const LONGEST: usize = LARGEST_BUNDLE + 1;
@@ -43,6 +48,8 @@ pub enum Call {
     Try(Change),
     Make(Change, Output),
     LookUp(u32),
+    /// Why the mark of that number is what it is.
+    Reason(u32),
 }
 
 /// A change of one file against a board: its new bytes, or nothing if it is
@@ -94,7 +101,7 @@ impl Header {
     }
 
     fn check(&self) -> io::Result<()> {
-        if self.op > MAKE + LENT {
+        if self.op > REASON_LENT {
             return Err(unsound("there is no such op"));
         }
         if self.output as usize > LONGEST {
@@ -108,7 +115,16 @@ impl Header {
     }
 
     fn is_change(&self) -> bool {
-        [TRY, MAKE].contains(&(self.op % LENT))
+        [TRY, MAKE].contains(&parts_of(self.op).0)
+    }
+}
+
+/// The op of the same call with memory of its own, and whether it is lent some.
+fn parts_of(op: u32) -> (u32, bool) {
+    match op {
+        REASON => (REASON, false),
+        REASON_LENT => (REASON, true),
+        _ => (op % LENT, op >= LENT),
     }
 }
 
@@ -125,19 +141,24 @@ impl GateCase {
     }
 
     pub fn op(&self) -> u32 {
-        let op = match self.call {
-            Call::Judge => JUDGE,
-            Call::Try(_) => TRY,
-            Call::Make(..) => MAKE,
-            Call::LookUp(_) => LOOK_UP,
+        let (op, lent) = match self.call {
+            Call::Judge => (JUDGE, JUDGE + LENT),
+            Call::Try(_) => (TRY, TRY + LENT),
+            Call::Make(..) => (MAKE, MAKE + LENT),
+            Call::LookUp(_) => (LOOK_UP, LOOK_UP),
+            Call::Reason(_) => (REASON, REASON_LENT),
         };
-        op + if self.lent { LENT } else { 0 }
+        if self.lent {
+            lent
+        } else {
+            op
+        }
     }
 
     pub fn change(&self) -> Option<&Change> {
         match &self.call {
             Call::Try(change) | Call::Make(change, _) => Some(change),
-            Call::Judge | Call::LookUp(_) => None,
+            Call::Judge | Call::LookUp(_) | Call::Reason(_) => None,
         }
     }
 
@@ -146,7 +167,7 @@ impl GateCase {
         let number = match &self.call {
             Call::Judge => 0,
             Call::Try(change) | Call::Make(change, _) => change.number,
-            Call::LookUp(number) => *number,
+            Call::LookUp(number) | Call::Reason(number) => *number,
         };
         let new = self.change().and_then(|change| change.new.as_deref());
         let output = match self.call {
@@ -196,16 +217,18 @@ impl Question for GateCase {
         };
         let header = Header::read(op, input)?;
         let bundle = Arc::new(read_slice_within(input, header.bundle, LONGEST)?);
-        let call = match op % LENT {
+        let (owned, lent) = parts_of(op);
+        let call = match owned {
             JUDGE => Call::Judge,
             TRY => Call::Try(read_change(&header, input)?),
             MAKE => {
                 let output = Output { length: header.output, seed: header.seed };
                 Call::Make(read_change(&header, input)?, output)
             }
+            REASON => Call::Reason(header.number),
             _ => Call::LookUp(header.number),
         };
-        Ok(Some(GateCase { bundle, call, lent: op >= LENT }))
+        Ok(Some(GateCase { bundle, call, lent }))
     }
 
     fn answer(&self) -> Answer {
@@ -217,6 +240,7 @@ impl Question for GateCase {
             }
             Call::Make(change, output) => answer_made(&self.bundle, change, *output),
             Call::LookUp(number) => Answer::Found(answer_part(&self.bundle, *number)),
+            Call::Reason(mark) => Answer::told(reason(&self.bundle, *mark as usize)),
         }
     }
 
@@ -229,6 +253,7 @@ impl Question for GateCase {
             Call::Judge | Call::Try(_) => Answer::read_judged(input),
             Call::Make(_, output) => Answer::read_made(input, output.length),
             Call::LookUp(_) => Answer::read_found(input),
+            Call::Reason(_) => Answer::read_told(input),
         };
         answer.ok()
     }
@@ -280,6 +305,7 @@ impl GateCase {
                 format!("make, {}, output of {length} bytes, seed {seed}", change.describe())
             }
             Call::LookUp(number) => format!("look up file {number}"),
+            Call::Reason(mark) => format!("reason of mark {mark}"),
         }
     }
 }
@@ -365,6 +391,8 @@ mod tests {
             Call::Try(change(5, None)),
             Call::Make(change(u32::MAX, Some(b"abc")), Output { length: 9, seed: u32::MAX }),
             Call::LookUp(1 << 31),
+            Call::Reason(0),
+            Call::Reason(u32::MAX),
         ];
         let owned = calls.iter().map(|call| GateCase::new(small(), call.clone()));
         let lent = calls.iter().map(|call| GateCase::lent(small(), call.clone()));
@@ -398,8 +426,11 @@ mod tests {
     #[test]
     fn unsound_cases_are_not_answered() {
         let longer = LONGEST as u32 + 1;
-        let headers: [[u32; 7]; 8] = [
-            [7, 0, 0, 0, 0, 0, 0],
+        let headers: [[u32; 7]; 11] = [
+            [9, 0, 0, 0, 0, 0, 0],
+            [7, longer, 0, 0, 0, 0, 0],
+            [7, 0, 0, 1, 1, 0, 0],
+            [8, 0, 0, 1, 1, 0, 0],
             [0, longer, 0, 0, 0, 0, 0],
             [1, 0, 0, 1, longer, 0, 0],
             [2, 0, 0, 0, 0, longer, 0],
@@ -468,6 +499,21 @@ mod tests {
         assert_eq!(look_up(5), found(0, 0, b"[]"));
         assert_eq!(look_up(6), found(1, 0, b""));
         assert_eq!(look_up(20), found(2, 4, b""));
+    }
+
+    #[test]
+    fn a_reason_is_asked_in_an_op_of_its_own() {
+        let ask = |mark| Call::Reason(mark);
+        let (owned, lent) =
+            (GateCase::new(small(), ask(5)), GateCase::lent(small(), ask(u32::MAX)));
+        assert_eq!(sent(&owned)[..12], [7, 0, 0, 0, 166, 0, 0, 0, 5, 0, 0, 0]);
+        assert_eq!(sent(&lent)[..12], [8, 0, 0, 0, 166, 0, 0, 0, 255, 255, 255, 255]);
+        assert_eq!(sent(&lent)[12..28], [0; 16]);
+        assert_eq!((sent(&owned).len(), sent(&lent).len()), (28 + 166, 28 + 166));
+        assert_eq!(owned.answer(), Answer::Told([1, 0, 0, 0, 0, 0, 0, 0, 0]));
+        assert_eq!(lent.answer(), Answer::Told([0, 7, 0, 0, 0, 0, 0, 0, 0]));
+        let shown = lent.describe(&lent.answer(), &lent.answer());
+        assert!(shown.starts_with("reason of mark 4294967295, in a lent workspace\n"));
     }
 
     #[test]

@@ -4,7 +4,8 @@
 use std::fmt::{self, Display};
 
 use super::answer::Answer;
-use super::case::{Call, Change, GateCase, JUDGE, LENT, LOOK_UP, MAKE, TRY};
+use super::case::{Call, Change, GateCase, JUDGE, LENT, LOOK_UP, MAKE, REASON, REASON_LENT, TRY};
+use super::reason_sights::{self, Told};
 use crate::board::{Board, Mark, HOLDS};
 use crate::bundle::{file_part, file_state, FileState, FILES};
 use crate::compare::tables::standing::{places_of, records_begun, standing, standing_among, At};
@@ -107,6 +108,8 @@ pub enum Sight {
         before: bool,
         after: bool,
     },
+    /// What the question for a reason shows.
+    Reason(Told),
 }
 
 /// Where the earliest record of the same key stands: right above, else at the
@@ -163,6 +166,7 @@ impl Display for Sight {
             Sight::Changed { number, before, after } => {
                 write!(out, "file {number} changed, present before {before}, after {after}")
             }
+            Sight::Reason(told) => write!(out, "{told}"),
         }
     }
 }
@@ -183,6 +187,7 @@ pub(super) fn wanted() -> Vec<Sight> {
         wanted.extend(wanted_of_handed(mark));
     }
     wanted.extend(wanted_refusals());
+    wanted.extend(reason_sights::wanted().into_iter().map(Sight::Reason));
     wanted
 }
 
@@ -191,7 +196,8 @@ pub(super) fn ruled_out() -> Vec<Sight> {
     let kinds = (0..FILES).map(|number| Sight::File { number, kind: GIVEN_NO_MORE });
     let needless = (0..=LAST_RULE).map(|mark| Sight::Needless { mark });
     let lacking = (0..=LAST_RULE).map(|mark| Sight::Lacking { mark });
-    kinds.chain(needless).chain(lacking).collect()
+    let reasons = reason_sights::ruled_out().into_iter().map(Sight::Reason);
+    kinds.chain(needless).chain(lacking).chain(reasons).collect()
 }
 
 fn wanted_of_file(number: usize) -> Vec<Sight> {
@@ -263,9 +269,10 @@ fn wanted_of_handed(mark: usize) -> Vec<Sight> {
 }
 
 /// A judgement asks for no file and writes nothing, a try writes nothing, and
-/// a lookup changes nothing. A lent workspace changes no refusal.
+/// a lookup changes nothing. A lent workspace changes no refusal. A reason that is
+/// told is refusal 0.
 fn wanted_refusals() -> Vec<Sight> {
-    let refusals: [(u32, &[u32]); 7] = [
+    let refusals: [(u32, &[u32]); 9] = [
         (JUDGE, &[0, 1, 2, 3]),
         (TRY, &[0, 1, 2, 3, 4, 6]),
         (MAKE, &[0, 1, 2, 3, 4, 5, 6]),
@@ -273,6 +280,8 @@ fn wanted_refusals() -> Vec<Sight> {
         (JUDGE + LENT, &[0, 1, 2, 3]),
         (TRY + LENT, &[0, 1, 2, 3, 4, 6]),
         (MAKE + LENT, &[0, 1, 2, 3, 4, 5, 6]),
+        (REASON, &[0, 1, 2, 3, 7]),
+        (REASON_LENT, &[0, 1, 2, 3, 7]),
     ];
     let of_op = |(op, refusals): (u32, &'static [u32])| {
         refusals.iter().map(move |refusal| Sight::Refusal { op, refusal: *refusal })
@@ -300,6 +309,10 @@ pub(super) fn sights_of(case: &GateCase, expected: &Answer) -> Vec<Sight> {
             sights.extend(of_changed_board(change, *refusal, board));
         }
         (Call::LookUp(_), Answer::Found(part)) if part.state == 1 => sights.push(Sight::Omitted),
+        (Call::Reason(mark), Answer::Told(nine)) => {
+            let told = reason_sights::sights_of(&case.bundle, *mark, nine);
+            sights.extend(told.into_iter().map(Sight::Reason));
+        }
         _ => {}
     }
     sights

@@ -1,4 +1,4 @@
-//! The cases of the whole gate: rules, layouts, changes, lookups.
+//! The cases of the whole gate: rules, layouts, changes, lookups, reasons.
 
 mod breaking;
 mod changes;
@@ -14,6 +14,7 @@ mod mutated;
 mod outline;
 mod pool;
 mod random_tables;
+mod reasons;
 mod records;
 mod runs;
 mod sizes;
@@ -52,6 +53,7 @@ pub fn all_cases(seed: u64) -> Vec<GateCase> {
     changes::add(&mut cases);
     runs::add(&mut cases);
     lookups::add(&mut cases);
+    reasons::add(&mut cases);
     cases.list
 }
 
