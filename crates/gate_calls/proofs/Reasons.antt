@@ -1,8 +1,7 @@
 -- What is told of a mark of a bundle: refused or not, and which value it shows.
 -- Assumes nothing.
-use Prim.Native.Nat.{ℕ, _<_}
+use Prim.Native.Nat.{ℕ}
 use mathlib.Core.Path.{_≡_, refl}
-use mathlib.Core.Bool.{cond}
 use lib.Dec.{ltb, eqb}
 use Rattle.json_bytes.proofs.Laws.{either}
 use Rattle.parts.specs.Files.{File}

@@ -9,7 +9,7 @@ use borrow.Author.Tests.{lt-leb, le-leb, eq-eqb, ne-eqb}
 use lib.ListN.{length}
 use lib.Dec.{ltb, leb, eqb}
 use Rattle.parts.specs.Files.{File}
-use Rattle.standing.specs.Standing.{standing, startStanding}
+use Rattle.standing.specs.Standing.{startStanding}
 use Rattle.bundle_layout.specs.Bundle.{bundleFault, offsetAt, fileAt}
 use Rattle.reason_answer.specs.declared.Reason.{Reason}
 use Rattle.reason_answer.specs.declared.Reason.the-variants.{Refused}

@@ -20,7 +20,7 @@ use Rattle.standing.specs.Standing.{sliceOf, standing, startStanding, placed}
 use Rattle.standing.proofs.Laws.{slice-first, slice-second, placed-length, placed-fits, placed-there, placed-nowhere, placed-other, start-placed, start-kept}
 use Rattle.bundle_bytes.specs.Pieces.{changed}
 use Rattle.bundle_bytes.proofs.Laws.{changed-same, changed-other}
-use Rattle.bundle_layout.specs.Bundle.{offsetAt, lengthAt, isOmitted, endOf, bundleFault, partAt, fileAt}
+use Rattle.bundle_layout.specs.Bundle.{offsetAt, lengthAt, isOmitted, bundleFault, partAt, fileAt}
 use Rattle.bundle_layout.specs.Change.{filesAfter}
 use Rattle.bundle_layout.proofs.Laws.{omitted-offset, present-offset, end-within}
 use Rattle.gate_lists.specs.Stands.{standsIn}

@@ -1,6 +1,6 @@
 -- What is told of a mark from lists in which it was judged is what is told of it from the files, and how the whole ends.
 -- Assumes nothing.
-use Prim.Native.Nat.{ℕ, _+_, _-_, _*_, _/_, _≤_, _<_}
+use Prim.Native.Nat.{ℕ, _+_, _-_, _/_, _≤_, _<_}
 use mathlib.Core.Path.{_≡_, refl, sym, ap, _∙_}
 use mathlib.Core.Bool.{Bool, true, false, cond, _&&_}
 use mathlib.Core.List.{List, []}
@@ -9,20 +9,18 @@ use borrow.Author.Tests.{lt-ltb, le-ltb, le-leb, lt-leb, ltb-true, ltb-false, le
 use lib.ListN.{length, getD, take}
 use lib.Seq.{length-take-le}
 use lib.Dec.{ltb, leb, eqb}
-use Rattle.json_bytes.proofs.Laws.{by-test, both-left, both-right}
-use Rattle.parts.specs.Files.{File, bytesOf}
-use Rattle.standing.specs.Standing.{standing, startStanding}
+use Rattle.json_bytes.proofs.Laws.{both-left, both-right}
+use Rattle.parts.specs.Files.{File}
 use Rattle.mark_numbers.specs.declared.Mark.{Mark}
 use Rattle.mark_numbers.specs.Marks.{Marks, marksIn, markIn, haveLength, notJudged}
 use Rattle.mark_numbers.proofs.Laws.{long-lists}
 use Rattle.rule_cells.specs.Cells.{Table, table}
 use Rattle.rule_shape.specs.declared.Rule.{Rule}
 use Rattle.rule_shape.specs.Rule.{firstOf, secondOf, ruleFrom}
-use Rattle.rule_reason.specs.Reason.{decidingField, searchedIn}
+use Rattle.rule_reason.specs.Reason.{searchedIn}
 use Rattle.rule_reason.proofs.Laws.{deciding-any-count}
 use Rattle.reason_answer.specs.declared.Reason.{Reason}
 use Rattle.reason_answer.specs.declared.Reason.the-variants.{Refused, Holds, NotJudged, OwnMark}
-use Rattle.found_marks.specs.Found.{countIn}
 use Rattle.found_marks.proofs.Laws.{and-false}
 use Rattle.gate_marks.specs.declared.Scope.{Scope}
 use Rattle.gate_marks.specs.Gate.{Gate, marksOf, ruleOf, readsFile, expectedIn, gateFrom}
@@ -31,7 +29,7 @@ use Rattle.gate_marks.specs.Marks.{fileMark, tableOf, ruleMark, ruleMarkAt, mar
 use Rattle.gate_marks.specs.Again.{newMarks, isNeeded, workJudged, workspaceOf, hasRoom, hasLists, canJudge, marksAfter, workAfterwards}
 use Rattle.gate_marks.proofs.Rooms.{width-is, cells-by}
 use Rattle.gate_marks.proofs.Laws.{first-reads, second-reads, mark-read, asked-needed, asked-mark, asked-file, cells-needed}
-use Rattle.reason.specs.Reason.{valueStart, valueLength, shownOf, brokenBy, isReadable, lowestOf, unreadOf, toldOf, reasonAt, canTell, reasonIn, workTold}
+use Rattle.reason.specs.Reason.{shownOf, brokenBy, isReadable, lowestOf, unreadOf, toldOf, reasonAt, canTell, reasonIn, workTold}
 use Rattle.reason.specs.Code.{kindsIn, tableFound}
 
 and-true : (t : Bool) → (t && true) ≡ t

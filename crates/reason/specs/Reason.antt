@@ -24,15 +24,15 @@ use Rattle.gate_marks.specs.Marks.{fileMark, tableOf, markAt}
 use Rattle.gate_marks.specs.Again.{hasRoom, workJudged}
 
 -- ---- A rule that is broken
--- where the value of field k of record r, counted from 0, stands in the bundle, whose part from an offset on the file is; and
--- its length. A null has neither.
+-- "its value as the part of the bundle where it stands": where the value of field k of record r, counted from 0, starts in the
+-- bundle, in which its file starts at an offset, and how long it is; 0 and 0 for null
 unfoldable pub valueStart : ℕ → List ℕ → ℕ → ℕ → ℕ → ℕ
 valueStart offset cells width r k = cond (isGiven cells width r k) (offset + startOf cells width r k) 0
 
 unfoldable pub valueLength : List ℕ → ℕ → ℕ → ℕ → ℕ
 valueLength cells width r k = cond (isGiven cells width r k) (cellOf cells width r (2 * k + 1) - startOf cells width r k) 0
 
--- of a rule with mark x over table t: the record and its companion are those of the mark
+-- what is shown of a rule whose mark is x, over table t: the record and its companion are those of the mark
 unfoldable pub shownOf : Rule → ℕ → Table → Mark → Shown
 shownOf rule offset t x =
     let r = x .place - 1 in
@@ -49,7 +49,7 @@ brokenBy Nowhere shown = Broken shown
 unfoldable pub isReadable : ℕ → (ℕ → ℕ) → ℕ → Bool
 isReadable n kind k = ltb k n && eqb (kind k) 0
 
--- of two files, the lower one first, one at least can't be read
+-- of two files, the lower number first, of which one at least can't be read
 unfoldable pub lowestOf : (ℕ → Bool) → ℕ → ℕ → ℕ
 lowestOf readable low high = cond (readable low) high low
 

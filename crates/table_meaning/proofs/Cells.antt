@@ -82,7 +82,8 @@ module _ (single : Bool) (fields : List Field) (s cells : List ℕ) (n : ℕ) (m
   cell-read : (j : ℕ) → j ≤ 2 * k + 1 → cellOf cells (widthOf fields) r j ≡ getD cells (r * widthOf fields + j) 0
   cell-read j h = cell-is cells (widthOf fields) r j (omega (arith, l, means .few)) (omega (arith, means .narrow r l)) (omega (arith, means .narrow r l))
 
-  says : Says (here .members) k start end
+  -- what the two cells say of the record, as a rule reads them
+  pub says : Says (here .members) k start end
   unfolding startOf startCell endCell
   says = rw (cell-read (2 * k) (omega arith), cell-read (2 * k + 1) (omega arith), ← add-assoc) (here .cell k m)
 

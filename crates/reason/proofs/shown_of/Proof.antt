@@ -1,5 +1,6 @@
 -- `reason::shown_of` meets its contract: the table is that of the rule's file.
 -- Assumes nothing.
+use native.Mathlib.Omega.{arith}
 use borrow.Author.Needs.{needs}
 use denote.Ref.{now}
 use Rattle.standing.specs.Standing.{standing, startStanding}
@@ -23,7 +24,7 @@ width-of-requires : tie.Need-width-of-requires
 width-of-requires c κs = search needs
 
 shown-in-requires : tie.Need-shown-in-requires
-shown-in-requires c κs = c .before .before .before .start-standing .ensures .1
+shown-in-requires c κs = omega (arith, c .before .before .before .start-standing .ensures .1)
 
 returns : tie.Need-returns
 returns c =
