@@ -332,6 +332,130 @@ static void boards(void) {
     expect("faults of no marks", 0, knotsaddle_faults(board.kinds, 0));
 }
 
+/* ---- Reasons */
+
+/* A workshift of no calendar and without hours, a name that is none, and two resources with one ID; three files are missing. */
+static uint8_t faulty[1000];
+static size_t faulty_length;
+
+static void put_faulty(size_t file, const char *text) {
+    uint8_t made[1000];
+    knotsaddle_change put = knotsaddle_put(file, (const uint8_t *)text, strlen(text));
+    expect("a file with faults", 0,
+           knotsaddle_make_change(faulty, faulty_length, &board, put, made, sizeof made, &faulty_length));
+    memcpy(faulty, made, faulty_length);
+}
+
+static const char workshifts[] = "[{\"CalendarID\":\"C1\"}]";
+static const char exceptions[] = "[{\"id\":1}]";
+static const char resources[] = "[{\"ID\":\"R1\",\"Name\":\"Fitter\",\"ElementOfCostID\":\"LABOR\"},"
+                                "{\"ID\":\"r1\",\"Name\":\"Rigger\",\"ElementOfCostID\":\"LABOR\"}]";
+
+/* What the mark's reason is expected to be, with the value as text; its numbers as the exported call gives them, too. */
+static void expect_reason(const char *what, size_t mark, knotsaddle_told expected, const char *value) {
+    knotsaddle_told told;
+    size_t numbers[KNOTSADDLE_TOLD_NUMBERS], length = strlen(value);
+    memset(&told, 0xff, sizeof told);
+    memset(numbers, 0xff, sizeof numbers);
+    expect(what, 0, knotsaddle_reason_of(faulty, faulty_length, mark, &told));
+    expect("its answer", expected.answer, told.answer);
+    expect("its kind", expected.kind, told.kind);
+    expect("its place", expected.place, told.place);
+    expect("its companion", expected.companion, told.companion);
+    expect("its file", expected.file, told.file);
+    expect("its field", expected.field, told.field);
+    expect("its value's length", length, told.length);
+    expect("its value", 0, told.length != length || memcmp(told.value, value, length) != 0);
+    expect("the file searched", expected.searched, told.searched);
+    expect("its numbers", 0, knotsaddle_reason(faulty, faulty_length, mark, numbers, 9, work, KNOTSADDLE_WORKSPACE));
+    expect("those of the mark", 0,
+           numbers[0] != told.answer || numbers[1] != told.kind || numbers[2] != told.place || numbers[3] != told.companion);
+    expect("those of the field", 0, numbers[4] != told.file || numbers[5] != told.field || numbers[8] != told.searched);
+    expect("those of the value", 0, faulty + numbers[6] != told.value || numbers[7] != told.length);
+}
+
+/* A reason's mark is the one that the board has. */
+static void reasons_and_board(void) {
+    size_t other = 0;
+    knotsaddle_told told;
+    knotsaddle_judge_bundle(faulty, faulty_length, &board);
+    for (size_t m = 0; m < KNOTSADDLE_MARKS; m++) {
+        memset(&told, 0xff, sizeof told);
+        knotsaddle_reason_in(faulty, faulty_length, m, &told, work, KNOTSADDLE_WORKSPACE);
+        other += told.kind != board.kinds[m] || told.place != board.places[m] || told.companion != board.companions[m];
+    }
+    expect("reasons with another mark than the board's", 0, other);
+}
+
+static void reasons(void) {
+    knotsaddle_told holds = {0}, not_judged = {0}, own_mark = {0}, broken = {0}, missing = {0};
+    char name[KNOTSADDLE_NAME_ROOM];
+    faulty_length = knotsaddle_empty(faulty, sizeof faulty);
+    put_faulty(7, workshifts);
+    put_faulty(8, exceptions);
+    put_faulty(16, resources);
+    expect_reason("a mark that holds", 20, holds, "");
+    not_judged.answer = KNOTSADDLE_TOLD_NOT_JUDGED;
+    not_judged.kind = KNOTSADDLE_NOT_JUDGED;
+    not_judged.file = 1;
+    expect_reason("a mark that is not judged", 36, not_judged, "");
+    own_mark.answer = KNOTSADDLE_TOLD_OWN_MARK;
+    own_mark.kind = 21;
+    expect_reason("a missing file", 3, own_mark, "");
+    own_mark.kind = 13;
+    own_mark.place = 2;
+    own_mark.companion = 1;
+    expect_reason("an unknown name", 8, own_mark, "");
+    broken.answer = KNOTSADDLE_TOLD_BROKEN;
+    broken.kind = 1;
+    broken.place = 2;
+    broken.companion = 1;
+    broken.file = 16;
+    expect_reason("a key twice", 32, broken, "\"r1\"");
+    broken.place = 1;
+    broken.companion = 0;
+    broken.file = 7;
+    broken.field = 2;
+    expect_reason("a workshift without hours", 69, broken, "");
+    missing.answer = KNOTSADDLE_TOLD_MISSING;
+    missing.kind = 1;
+    missing.place = 1;
+    missing.file = 7;
+    missing.searched = 6;
+    expect_reason("a missing target", 49, missing, "\"C1\"");
+    expect("the name of the deciding field", 15, knotsaddle_name_of_field(7, 2, name));
+    expect_text("its text", "SundayWorkHours", name);
+    reasons_and_board();
+}
+
+/* Refusals in the order of their tests; nothing is written. */
+static void refused_reasons(void) {
+    size_t numbers[10], other = 0;
+    knotsaddle_told told;
+    uint8_t count_21[KNOTSADDLE_EMPTY_BUNDLE];
+    memset(numbers, 0xff, sizeof numbers);
+    memset(&told, 0xff, sizeof told);
+    memcpy(count_21, bundle, sizeof count_21);
+    count_21[0] = 21;
+    hand_over();
+    expect("reason, 8 numbers", 100, knotsaddle_reason(bundle, 0, 81, numbers, 8, work, TOO_SHORT));
+    expect("reason, 10 numbers", 100, knotsaddle_reason(bundle, 164, 0, numbers, 10, work, KNOTSADDLE_WORKSPACE));
+    expect("reason, workspace too short", 14, knotsaddle_reason(bundle, 0, 81, numbers, 9, work, TOO_SHORT));
+    expect("reason, no workspace", 14, knotsaddle_reason_in(bundle, 164, 0, &told, NULL, 0));
+    expect("reason, null for no bundle", 1, knotsaddle_reason_in(NULL, 0, 81, &told, work, KNOTSADDLE_WORKSPACE));
+    expect("reason, count 21", 2, knotsaddle_reason_in(count_21, 164, 81, &told, work, KNOTSADDLE_WORKSPACE));
+    expect("reason, a bundle that is too long", 3, knotsaddle_reason_in(faulty, faulty_length + 1, 81, &told, work, KNOTSADDLE_WORKSPACE));
+    expect("reason, mark 81", 7, knotsaddle_reason(bundle, 164, 81, numbers, 9, work, KNOTSADDLE_WORKSPACE));
+    expect("reason, mark 81 by itself", 7, knotsaddle_reason_of(bundle, 164, 81, &told));
+    no_memory = 1;
+    expect("reason without memory", KNOTSADDLE_NO_MEMORY, knotsaddle_reason_of(bundle, 164, 0, &told));
+    no_memory = 0;
+    for (size_t i = 0; i < 10; i++) other += numbers[i] != SIZE_MAX;
+    expect("the numbers that they write", 0, other);
+    expect("the reason that they write", 0, told.answer != UINT32_MAX || told.place != SIZE_MAX || told.searched != SIZE_MAX);
+    expect("what else they write", 0, written());
+}
+
 /* ---- Texts */
 
 static void reports(void) {
@@ -376,8 +500,32 @@ static void names(void) {
     expect_text("its text", "", name);
 }
 
+static void field_names(void) {
+    char name[KNOTSADDLE_NAME_ROOM];
+    size_t fields = 0, longest = 0, length;
+    memset(name, 9, sizeof name);
+    expect("the name of a field without room", 0, knotsaddle_field_name(9, 0, (uint8_t *)name, 1));
+    expect("a field that is none", 0, knotsaddle_field_name(6, 3, (uint8_t *)name, sizeof name));
+    expect("a field of no table", 0, knotsaddle_field_name(0, 0, (uint8_t *)name, sizeof name));
+    expect("a field of file 20", 0, knotsaddle_field_name(20, 0, (uint8_t *)name, sizeof name));
+    expect("a field far out", 0, knotsaddle_field_name(SIZE_MAX, SIZE_MAX, (uint8_t *)name, sizeof name));
+    expect("what is written", 9, (size_t)name[0]);
+    expect("the name of a field", 2, knotsaddle_field_name(9, 0, (uint8_t *)name, 2));
+    expect("the byte behind it", 9, (size_t)name[2]);
+    for (size_t file = 0; file < KNOTSADDLE_FILES; file++) {
+        for (size_t field = 0; (length = knotsaddle_name_of_field(file, field, name)) != 0; field++) {
+            fields++;
+            if (length > longest) longest = length;
+        }
+    }
+    expect("fields with a name", 136, fields);
+    expect("the longest name", 27, longest);
+    expect("the last field's name", 23, knotsaddle_name_of_field(19, 8, name));
+    expect_text("its text", "PhysicalPercentComplete", name);
+}
+
 static void words(void) {
-    static const uint32_t refusals[] = {1, 2, 3, 4, 5, 6, 14, 100, 101, 102};
+    static const uint32_t refusals[] = {1, 2, 3, 4, 5, 6, 7, 14, 100, 101, 102};
     expect_text("mark 0 is about", "FileType.txt: the file itself", knotsaddle_about_mark(0));
     expect_text("mark 32 is about", "Resources: no two records with the same ID", knotsaddle_about_mark(32));
     expect_text("mark 80 is about", "TaskOutlineStructure: the parent is a SUMMARY task in Tasks", knotsaddle_about_mark(80));
@@ -387,7 +535,7 @@ static void words(void) {
     }
     expect_text("4 in words", "the file number is over 19", knotsaddle_in_words(4));
     expect_text("0 in words", "", knotsaddle_in_words(0));
-    expect_text("7 in words", "", knotsaddle_in_words(7));
+    expect_text("8 in words", "", knotsaddle_in_words(8));
 }
 
 /* ---- Whole sets, on a small stack: by the calls that get a workspace, and by those that are lent one */
@@ -435,6 +583,23 @@ static void make_in(void) {
                                      KNOTSADDLE_WORKSPACE);
 }
 
+/* The reason of every mark. */
+static void tell(void) {
+    knotsaddle_told told;
+    for (size_t m = 0; m < KNOTSADDLE_MARKS; m++) knotsaddle_reason_of(set, set_length, m, &told);
+}
+
+static void tell_in(void) {
+    knotsaddle_told told;
+    for (size_t m = 0; m < KNOTSADDLE_MARKS; m++) {
+        knotsaddle_reason_in(set, set_length, m, &told, work, KNOTSADDLE_WORKSPACE);
+    }
+}
+
+static void name_field(void) {
+    knotsaddle_field_name(19, 8, own.out, ROOM);
+}
+
 /* The small calls, one after the other. */
 static void others(void) {
     char text[1];
@@ -451,13 +616,13 @@ static void others(void) {
 }
 
 /* The most bytes that each call wrote on its stack. */
-static size_t judge_stack, try_stack, make_stack, others_stack;
+static size_t judge_stack, try_stack, make_stack, tell_stack, field_stack, others_stack;
 
 /* Makes a call on a painted stack of its own and sees how far down the paint is gone. The functions of the C library that
  * the call uses were called before, by the small cases: the first call of such a function goes through the loader, which
  * would count here. */
 static void on_small_stack(void (*call)(void), size_t *most) {
-    static uint8_t stack[65536];
+    static uint8_t stack[262144];
     static ucontext_t here, there;
     size_t left = 0;
     memset(stack, 0xa5, sizeof stack);
@@ -532,6 +697,9 @@ static void whole_set(const char *folder) {
     expect("the changes' board other than the judgement's", 0, !same_board(&own.board, &before.board));
     memset(work, 0xff, sizeof work);
     expect("judged otherwise in a filled workspace", 0, differs(judge, judge_in, &judge_stack));
+    on_small_stack(tell, &tell_stack);
+    on_small_stack(tell_in, &tell_stack);
+    on_small_stack(name_field, &field_stack);
     on_small_stack(others, &others_stack);
     at_hand = "calls";
 }
@@ -554,14 +722,19 @@ int main(int argc, char **argv) {
     empty_bundle();
     example_of_the_layout();
     boards();
+    reasons();
+    refused_reasons();
     reports();
     names();
+    field_names();
     words();
     for (int i = 1; i < argc; i++) whole_set(argv[i]);
     if (argc > 1) {
         stack_used("judging", judge_stack, KNOTSADDLE_STACK);
         stack_used("trying", try_stack, KNOTSADDLE_STACK);
         stack_used("making", make_stack, KNOTSADDLE_STACK);
+        stack_used("telling a reason", tell_stack, KNOTSADDLE_STACK);
+        stack_used("the name of a field", field_stack, 8192);
         stack_used("the other calls", others_stack, 2048);
     }
     expect("workspaces that were not given back", 0, (size_t)out_on_loan);

@@ -1,4 +1,4 @@
-/* The gate for C: judge a bundle, try a change, make it, ask for a file, print a report.
+/* The gate for C: judge a bundle, try a change, make it, ask why a mark does not hold, ask for a file, print a report.
  *
  * There are two layers. The exported calls, first below, take every list as a pointer and a length, and are what other
  * languages bind to. The inline functions behind them take a board and a change as structs; a C program uses these.
@@ -20,6 +20,16 @@
  * 20 to 80). The companion is the record that goes with it: the earliest with the same key (20 to 35), the parent (79, 80), the
  * one in which the byte stands (kinds 13 to 18 and 30 to 34); 0 if there is none.
  *
+ * THE REASON of a mark is nine numbers, each with one meaning and 0 in an answer that has no such thing:
+ *     0          which answer: 0 the mark holds, 1 it is not judged, 2 a file's own mark, 3 a broken rule, 4 a rule that is
+ *                broken because no record of the file searched has the value
+ *     1, 2, 3    the mark's kind, place and companion, as on a board: of a broken rule 1, the first record that breaks it, and
+ *                the record that goes with it
+ *     4          the file of that record; of a rule that is not judged the unreadable file with the lowest number
+ *     5          the field that decides, counted from 0 within its table
+ *     6, 7       where its value starts in the bundle, quotes included, and how long it is; 0 and 0 for null
+ *     8          the file searched
+ *
  * THE ANSWER of a call is 0, or says why it was refused; a number means the same in every call. Tested in this order:
  *   100    a list has another length than it must have
  *   101    `present` is neither 1 nor 0
@@ -28,14 +38,16 @@
  *     2    its count is not 20
  *     3    an offset, a length or the end breaks the layout
  *     4    the file number is over 19
+ *     7    the mark number is over 80
  *     6    the new bundle would be over 1,048,576 bytes
  *     5    the output is shorter than the new bundle
  * The inline functions never give 100. Those that get a workspace of their own give 102, before all others, where there is no
  * memory for it. A refused call leaves every list as it was, but for one: a refused judgement, unless by 100 or 102, makes
  * every mark 'not judged'.
  *
- * STACK: judging, trying and making need some 29 KB below the caller's frame, in either layer, and less than KNOTSADDLE_STACK
- * bytes; a stack that is too small ends in a crash without a word. The other calls need less than 2 KB.
+ * STACK: judging, trying and making need some 131 KB below the caller's frame, in either layer, telling a reason some 134 KB, and
+ * all of them less than KNOTSADDLE_STACK bytes; a stack that is too small ends in a crash without a word. The name of a field
+ * needs less than 8 KB, the other calls less than 2 KB.
  *
  * THREADS: nothing is kept between calls, so any number of threads may call at once, as long as no thread writes to a list
  * that another one uses.
@@ -54,15 +66,22 @@
 #define KNOTSADDLE_MARKS 81
 /* numbers of 4 bytes in a workspace: 3,178,808 bytes */
 #define KNOTSADDLE_WORKSPACE 794702
-/* bytes: the bundle with no files, the largest one, the room for a report, that for a file's name and the zero byte behind it,
- * and the stack of a call */
+/* bytes: the bundle with no files, the largest one, the room for a report, that for the name of a file or a field and the zero
+ * byte behind it, and the stack of a call */
 #define KNOTSADDLE_EMPTY_BUNDLE 164
 #define KNOTSADDLE_LARGEST_BUNDLE 1048576
 #define KNOTSADDLE_REPORT_ROOM 6144
 #define KNOTSADDLE_NAME_ROOM 36
-#define KNOTSADDLE_STACK 32768
+#define KNOTSADDLE_STACK 163840
 
 #define KNOTSADDLE_NOT_JUDGED 2
+/* the numbers of a reason, and its answers */
+#define KNOTSADDLE_TOLD_NUMBERS 9
+#define KNOTSADDLE_TOLD_HOLDS 0
+#define KNOTSADDLE_TOLD_NOT_JUDGED 1
+#define KNOTSADDLE_TOLD_OWN_MARK 2
+#define KNOTSADDLE_TOLD_BROKEN 3
+#define KNOTSADDLE_TOLD_MISSING 4
 #define KNOTSADDLE_SHORT_WORKSPACE 14
 #define KNOTSADDLE_WRONG_LENGTH 100
 #define KNOTSADDLE_WRONG_PRESENT 101
@@ -107,6 +126,13 @@ uint32_t knotsaddle_make(const uint8_t *bundle, size_t bundle_length,
                          size_t *size, size_t size_length,
                          uint32_t *work, size_t work_length);
 
+/* Tells why a mark, 0 to 80, of a bundle does not hold: 0, or the refusal 100, 14, 1, 2, 3 or 7. `told`, a list of
+ * KNOTSADDLE_TOLD_NUMBERS, gets the numbers of the reason. */
+uint32_t knotsaddle_reason(const uint8_t *bundle, size_t bundle_length,
+                           size_t mark,
+                           size_t *told, size_t told_length,
+                           uint32_t *work, size_t work_length);
+
 /* Writes the judging program's text to the front of `out`, of at least KNOTSADDLE_REPORT_ROOM bytes: of a refusal, or with 0
  * of the board. No zero byte closes it. Answers the text's length, at most 4,546; or 0, with nothing written, where a length
  * is wrong. */
@@ -139,6 +165,10 @@ size_t knotsaddle_faults(const uint32_t *kinds, size_t kinds_length);
  * with nothing written, for a number over 19 or where `out` is shorter. */
 size_t knotsaddle_file_name(size_t file, uint8_t *out, size_t out_length);
 
+/* Writes the name of a field of a file, counted from 0, to the front of `out`. No zero byte closes it. Answers its length, at
+ * most 27; or 0, with nothing written, where the file has no such field or `out` is shorter. */
+size_t knotsaddle_field_name(size_t file, size_t field, uint8_t *out, size_t out_length);
+
 #ifdef __cplusplus
 }
 #endif
@@ -166,6 +196,20 @@ typedef struct knotsaddle_part {
     size_t length;
 } knotsaddle_part;
 
+/* The reason of a mark: one of the answers above, the mark's three numbers, and what is told with that answer; else 0. The
+ * value stays the bundle's own; its length is 0 for null. */
+typedef struct knotsaddle_told {
+    uint32_t answer;
+    uint32_t kind;
+    size_t place;
+    size_t companion;
+    size_t file;
+    size_t field;
+    const uint8_t *value;
+    size_t length;
+    size_t searched;
+} knotsaddle_told;
+
 static inline knotsaddle_change knotsaddle_put(size_t file, const uint8_t *bytes, size_t length) {
     knotsaddle_change change = {file, 1, bytes, length};
     return change;
@@ -182,7 +226,7 @@ static inline const uint8_t *knotsaddle_bytes(const uint8_t *bytes) {
     return bytes != NULL ? bytes : none;
 }
 
-/* ---- Judging, trying, making in a workspace that the caller lends */
+/* ---- Judging, trying, making, telling a reason in a workspace that the caller lends */
 
 static inline uint32_t knotsaddle_judge_in(const uint8_t *bundle, size_t bundle_length, knotsaddle_board *board,
                                            uint32_t *work, size_t work_length) {
@@ -223,6 +267,26 @@ static inline uint32_t knotsaddle_make_in(const uint8_t *bundle, size_t bundle_l
                            work != NULL ? work : &no_work, work_length);
 }
 
+/* After a refusal `told` is as it was. */
+static inline uint32_t knotsaddle_reason_in(const uint8_t *bundle, size_t bundle_length, size_t mark, knotsaddle_told *told,
+                                            uint32_t *work, size_t work_length) {
+    uint32_t no_work = 0;
+    size_t numbers[KNOTSADDLE_TOLD_NUMBERS] = {0};
+    uint32_t answer = knotsaddle_reason(knotsaddle_bytes(bundle), bundle_length, mark, numbers, KNOTSADDLE_TOLD_NUMBERS,
+                                        work != NULL ? work : &no_work, work_length);
+    if (answer != 0) return answer;
+    told->answer = (uint32_t)numbers[0];
+    told->kind = (uint32_t)numbers[1];
+    told->place = numbers[2];
+    told->companion = numbers[3];
+    told->file = numbers[4];
+    told->field = numbers[5];
+    told->value = bundle + numbers[6];
+    told->length = numbers[7];
+    told->searched = numbers[8];
+    return 0;
+}
+
 /* ---- The same in a workspace that the call gets and gives back. Where there is none it answers KNOTSADDLE_NO_MEMORY, and
  * everything is as it was. KNOTSADDLE_MALLOC and KNOTSADDLE_FREE may be defined before this file is included. */
 #ifndef KNOTSADDLE_MALLOC
@@ -258,6 +322,14 @@ static inline uint32_t knotsaddle_make_change(const uint8_t *bundle, size_t bund
     if (work == NULL) return KNOTSADDLE_NO_MEMORY;
     uint32_t answer =
         knotsaddle_make_in(bundle, bundle_length, board, change, out, out_length, size, work, KNOTSADDLE_WORKSPACE);
+    KNOTSADDLE_FREE(work);
+    return answer;
+}
+
+static inline uint32_t knotsaddle_reason_of(const uint8_t *bundle, size_t bundle_length, size_t mark, knotsaddle_told *told) {
+    uint32_t *work = knotsaddle_workspace();
+    if (work == NULL) return KNOTSADDLE_NO_MEMORY;
+    uint32_t answer = knotsaddle_reason_in(bundle, bundle_length, mark, told, work, KNOTSADDLE_WORKSPACE);
     KNOTSADDLE_FREE(work);
     return answer;
 }
@@ -301,6 +373,13 @@ static inline size_t knotsaddle_report_text(uint32_t refusal, const knotsaddle_b
  * 19. Answers its length without that. */
 static inline size_t knotsaddle_name_of_file(size_t file, char *name) {
     size_t length = knotsaddle_file_name(file, (uint8_t *)name, KNOTSADDLE_NAME_ROOM - 1);
+    name[length] = 0;
+    return length;
+}
+
+/* The same of a field of a file; nothing else where the file has no such field. */
+static inline size_t knotsaddle_name_of_field(size_t file, size_t field, char *name) {
+    size_t length = knotsaddle_field_name(file, field, (uint8_t *)name, KNOTSADDLE_NAME_ROOM - 1);
     name[length] = 0;
     return length;
 }

@@ -1,8 +1,8 @@
 //! Calls each function of the wrapper and checks its answer; ends in how many were right.
 
 use knotsaddle::{
-    about_mark, empty_bundle, file, file_name, judge, judge_in, make_change, make_in, report, try_change, try_in, Board,
-    Refusal, EMPTY_BUNDLE, FILES, MARKS, WORKSPACE,
+    about_mark, empty_bundle, field_name, file, file_name, judge, judge_in, make_change, make_in, reason, reason_in, report,
+    try_change, try_in, Board, Reason, Refusal, Shown, EMPTY_BUNDLE, FILES, MARKS, WORKSPACE,
 };
 
 struct Count {
@@ -81,6 +81,42 @@ fn lent(count: &mut Count) {
     count.expect("what it writes", out_in == out && short.iter().all(|&number| number == 7));
 }
 
+/// A bundle with these files and no others.
+fn bundle_of(files: &[(usize, &[u8])]) -> Vec<u8> {
+    let mut bundle = empty_bundle().to_vec();
+    for &(file, bytes) in files {
+        let mut out = vec![0; bundle.len() + bytes.len()];
+        let made = make_change(&bundle, &Board::fresh(), file, Some(bytes), &mut out);
+        out.truncate(made.map_or(0, |made| made.length));
+        bundle = out;
+    }
+    bundle
+}
+
+/// Each answer that a mark's reason can be, and each refusal.
+fn reasons(count: &mut Count) {
+    let workshifts = br#"[{"CalendarID":"C1"}]"#;
+    let bundle = bundle_of(&[(7, workshifts), (8, br#"[{"id":1}]"#), (16, TWICE)]);
+    count.expect("a mark that holds", reason(&bundle, 20) == Ok(Reason::Holds));
+    count.expect("a mark not judged", reason(&bundle, 36) == Ok(Reason::NotJudged { file: 1 }));
+    let unknown = Reason::OwnMark { kind: 13, place: 2, companion: 1 };
+    count.expect("a file's own mark", reason(&bundle, 8) == Ok(unknown));
+    let twice = Shown { file: 16, record: 2, companion: 1, field: 0, value: &b"\"r1\""[..] };
+    count.expect("a key twice", reason(&bundle, 32) == Ok(Reason::Broken(twice)));
+    let no_hours = Shown { file: 7, record: 1, companion: 0, field: 2, value: &[][..] };
+    count.expect("no hours, the first null", reason(&bundle, 69) == Ok(Reason::Broken(no_hours)));
+    let shown = Shown { field: 0, value: &b"\"C1\""[..], ..no_hours };
+    let missing = Reason::Missing { shown, searched: 6 };
+    count.expect("a missing target", reason(&bundle, 49) == Ok(missing));
+    let mut work = vec![u32::MAX; WORKSPACE];
+    count.expect("it in a workspace", reason_in(&bundle, 49, &mut work) == Ok(missing));
+    count.expect("mark 81", reason_in(&bundle, MARKS, &mut work) == Err(Refusal(7)));
+    count.expect("no bundle", reason(&[], MARKS) == Err(Refusal(1)));
+    count.expect("too short a workspace", reason_in(&[], MARKS, &mut work[1..]) == Err(Refusal(14)));
+    count.expect("the name of a field", field_name(7, 2).as_deref() == Some("SundayWorkHours"));
+    count.expect("a field that is none", field_name(7, 9).is_none() && field_name(FILES, 0).is_none());
+}
+
 /// Boards, names and words.
 fn texts(count: &mut Count) {
     let fresh = Board::fresh();
@@ -95,26 +131,27 @@ fn texts(count: &mut Count) {
     count.expect("what mark 80 is about", last == Some("TaskOutlineStructure: the parent is a SUMMARY task in Tasks"));
     count.expect("no text for mark 81", about_mark(MARKS).is_none());
     count.expect("a refusal in words", Refusal(4).to_string() == "refused as 4: the file number is over 19");
-    count.expect("each has words", [1, 2, 3, 4, 5, 6, 14, 102].iter().all(|&number| !Refusal(number).in_words().is_empty()));
-    count.expect("no words for another number", Refusal(7).in_words().is_empty());
+    count.expect("each has words", [1, 2, 3, 4, 5, 6, 7, 14, 102].iter().all(|&number| !Refusal(number).in_words().is_empty()));
+    count.expect("no words for another number", Refusal(8).in_words().is_empty());
 }
 
-/// Four threads at once, each with 64 KB of stack.
+/// Four threads at once, each with 256 KB of stack.
 fn threads(count: &mut Count) {
     let bundle = empty_bundle();
     let alone = judge(&bundle);
     let judged: Vec<_> = std::thread::scope(|scope| {
-        let start = || std::thread::Builder::new().stack_size(65536).spawn_scoped(scope, || judge(&bundle));
+        let start = || std::thread::Builder::new().stack_size(262144).spawn_scoped(scope, || judge(&bundle));
         let started: Vec<_> = (0..4).map(|_| start()).collect();
         started.into_iter().map(|thread| thread.ok().and_then(|judging| judging.join().ok())).collect()
     });
     count.expect("judged on small stacks at once", judged.iter().all(|one| one.as_ref() == Some(&alone)));
 }
 
-fn main() {
+pub fn main() {
     let mut count = Count { passed: 0, failed: 0 };
     owning(&mut count);
     lent(&mut count);
+    reasons(&mut count);
     texts(&mut count);
     threads(&mut count);
     println!("{} passed, {} failed", count.passed, count.failed);

@@ -1,12 +1,12 @@
-//! The gate: judge a bundle in full, try a change, make it, ask for a file, print a report.
+//! The gate: judge a bundle in full, try a change, make it, ask why a mark doesn't hold, ask for a file, print a report.
 //!
 //! It stands on the static library that `rt staticlib gate_c` writes, for x86-64 Linux. Set `KNOTSADDLE_LIB_DIR` to the
 //! folder that holds `libgate_c.a`; without it `../target/staticlib` is searched. `docs/BUNDLE.md` has the layout of a bundle,
 //! `c/knotsaddle.h` what the numbers of a board mean.
 //!
-//! `judge`, `try_change` and `make_change` get a workspace of 3,178,808 bytes from the heap and give it back. `judge_in`,
-//! `try_in` and `make_in` do the same in a workspace that the caller lends. All of them use some 29 KB of stack. Nothing is
-//! kept between calls, so any number of threads may call at once.
+//! `judge`, `try_change`, `make_change` and `reason` get a workspace of 3,178,808 bytes from the heap and give it back.
+//! `judge_in`, `try_in`, `make_in` and `reason_in` do the same in a workspace that the caller lends. A reason uses some 134 KB of
+//! stack, the others some 131 KB. Nothing is kept between calls, so any number of threads may call at once.
 
 use std::fmt;
 
@@ -20,7 +20,7 @@ pub const WORKSPACE: usize = 794_702;
 pub const EMPTY_BUNDLE: usize = 164;
 /// The room that a report needs.
 pub const REPORT_ROOM: usize = 6144;
-/// The length of the longest name of a file.
+/// The length of the longest name of a file; no field has a longer one.
 const NAME_ROOM: usize = 35;
 
 /// The board: a kind, a place and a companion for each mark. Kind 0: the mark holds.
@@ -31,8 +31,8 @@ pub struct Board {
     pub companions: [usize; MARKS],
 }
 
-/// Why a call is refused, by its number: document 01's 1 to 6, 14 where a lent workspace is too short, 102 where there is no
-/// memory for one. In words by `Display`.
+/// Why a call is refused, by its number: document 01's 1 to 6, 7 for a mark number over 80, 14 where a lent workspace is too
+/// short, 102 where there is no memory for one. In words by `Display`.
 #[derive(Clone, Copy, Debug, PartialEq, Eq)]
 pub struct Refusal(pub u32);
 
@@ -43,7 +43,40 @@ pub struct Changed {
     pub length: usize,
 }
 
+/// What is shown of a rule that is broken.
+#[derive(Clone, Copy, Debug, PartialEq, Eq)]
+pub struct Shown<'a> {
+    /// The file whose record breaks the rule.
+    pub file: usize,
+    /// The first record that does, from 1.
+    pub record: usize,
+    /// The record that goes with it, from 1: the earliest with the same key, or the parent; 0 for none.
+    pub companion: usize,
+    /// The field that decides, counted from 0 within its table; `field_name` has its name.
+    pub field: usize,
+    /// Its value as the part of the bundle itself, quotes included; empty for null.
+    pub value: &'a [u8],
+}
+
+/// What is told of a mark.
+#[derive(Clone, Copy, Debug, PartialEq, Eq)]
+pub enum Reason<'a> {
+    /// The mark holds.
+    Holds,
+    /// A rule that is not judged, with the lowest-numbered unreadable file among those that it reads.
+    NotJudged { file: usize },
+    /// A file's own mark that doesn't hold: its numbers, as on a board.
+    OwnMark { kind: u32, place: usize, companion: usize },
+    /// A rule that is broken.
+    Broken(Shown<'a>),
+    /// A rule that is broken because no record of the file searched has the value.
+    Missing { shown: Shown<'a>, searched: usize },
+}
+
 const NO_MEMORY: Refusal = Refusal(102);
+
+/// How many numbers tell a reason.
+const TOLD_NUMBERS: usize = 9;
 
 // A slice is passed as its pointer and then its length. `usize` is C's `size_t`.
 extern "C" {
@@ -97,6 +130,15 @@ extern "C" {
         work: *mut u32,
         work_length: usize,
     ) -> u32;
+    fn knotsaddle_reason(
+        bundle: *const u8,
+        bundle_length: usize,
+        mark: usize,
+        told: *mut usize,
+        told_length: usize,
+        work: *mut u32,
+        work_length: usize,
+    ) -> u32;
     fn knotsaddle_report(
         refusal: u32,
         kinds: *const u32,
@@ -128,10 +170,12 @@ extern "C" {
     ) -> u32;
     fn knotsaddle_faults(kinds: *const u32, kinds_length: usize) -> usize;
     fn knotsaddle_file_name(file: usize, out: *mut u8, out_length: usize) -> usize;
+    fn knotsaddle_field_name(file: usize, field: usize, out: *mut u8, out_length: usize) -> usize;
 }
 
 // In each call below every pointer comes from a slice or an array of the length beside it, and what is written is lent
-// alone. The lists of a board have the right length by their type, and `present` is 1 or 0, so no call answers 100 or 101.
+// alone. The lists of a board and of a reason have the right length by their type, and `present` is 1 or 0, so no call answers
+// 100 or 101.
 
 impl Board {
     /// Every mark 'not judged'.
@@ -269,6 +313,38 @@ pub fn make_in(
     answer(refusal, Changed { board, length })
 }
 
+/// What is told of a mark, 0 to 80, of a bundle, in a lent workspace.
+pub fn reason_in<'a>(bundle: &'a [u8], mark: usize, work: &mut [u32]) -> Result<Reason<'a>, Refusal> {
+    let mut told = [0usize; TOLD_NUMBERS];
+    let refusal = unsafe {
+        knotsaddle_reason(
+            bundle.as_ptr(),
+            bundle.len(),
+            mark,
+            told.as_mut_ptr(),
+            TOLD_NUMBERS,
+            work.as_mut_ptr(),
+            work.len(),
+        )
+    };
+    answer(refusal, ())?;
+    Ok(reason_told(bundle, told))
+}
+
+/// The reason by its nine numbers; `c/knotsaddle.h` says what each means.
+fn reason_told(bundle: &[u8], told: [usize; TOLD_NUMBERS]) -> Reason<'_> {
+    let [answer, kind, place, companion, file, field, start, length, searched] = told;
+    let value = &bundle[start..start + length];
+    let shown = Shown { file, record: place, companion, field, value };
+    match answer {
+        0 => Reason::Holds,
+        1 => Reason::NotJudged { file },
+        2 => Reason::OwnMark { kind: kind as u32, place, companion },
+        3 => Reason::Broken(shown),
+        _ => Reason::Missing { shown, searched },
+    }
+}
+
 fn workspace() -> Result<Vec<u32>, Refusal> {
     let mut work = Vec::new();
     work.try_reserve_exact(WORKSPACE).map_err(|_| NO_MEMORY)?;
@@ -302,6 +378,11 @@ pub fn make_change(
     make_in(bundle, board, file, new, out, &mut workspace()?)
 }
 
+/// What is told of a mark, as `reason_in` has it.
+pub fn reason(bundle: &[u8], mark: usize) -> Result<Reason<'_>, Refusal> {
+    reason_in(bundle, mark, &mut workspace()?)
+}
+
 /// A file of a bundle, 0 to 19, as the part of the bundle itself; `None` for an omitted one.
 pub fn file(bundle: &[u8], file: usize) -> Result<Option<&[u8]>, Refusal> {
     let mut present = [0u32; 1];
@@ -332,6 +413,13 @@ pub fn empty_bundle() -> [u8; EMPTY_BUNDLE] {
 pub fn file_name(file: usize) -> Option<String> {
     let mut name = [0u8; NAME_ROOM];
     let length = unsafe { knotsaddle_file_name(file, name.as_mut_ptr(), NAME_ROOM) };
+    (length != 0).then(|| String::from_utf8_lossy(&name[..length]).into_owned())
+}
+
+/// The name of a field of a file, counted from 0; `None` where the file has no such field.
+pub fn field_name(file: usize, field: usize) -> Option<String> {
+    let mut name = [0u8; NAME_ROOM];
+    let length = unsafe { knotsaddle_field_name(file, field, name.as_mut_ptr(), NAME_ROOM) };
     (length != 0).then(|| String::from_utf8_lossy(&name[..length]).into_owned())
 }
 

@@ -25,5 +25,7 @@ pub mod print;
 pub mod reason;
 #[clippy::msrv = "1.63"]
 pub mod rules;
+#[cfg(not(serve_only))]
+pub mod sentence;
 #[clippy::msrv = "1.63"]
 pub mod table;

@@ -1,35 +1,68 @@
-//! The text of the judging program, and of the one that also tells the reasons.
+//! The text of the judging program, and of the two that also tell the reasons.
 
+use std::collections::BTreeMap;
+
+use crate::board::{Board, Mark};
 use crate::bundle::WRONG_SIZE;
-use crate::fields::FILE_NAMES;
 use crate::gate::judge;
-use crate::reason::{reason, Reason, Shown};
+use crate::reason::{reason, Reason};
+use crate::sentence::{kept_from_judgement, sentence};
 
-/// The longest bundle that the judging program takes.
+/// The longest bundle that a program takes from its standard input.
 pub const LARGEST_INPUT: usize = 65_536;
 
+/// The text of `judge`.
 pub fn report(input: &[u8]) -> String {
-    report_with(input, |_| String::new())
+    within_limit(input, |bundle| {
+        judged_text(bundle, |board| {
+            board.faults().map(|(number, mark)| numbers(number, mark)).collect()
+        })
+    })
 }
 
-/// The same with the reason behind each mark, in words.
-pub fn reasons(input: &[u8]) -> String {
-    report_with(input, |number| words(input, number))
+/// The text of `reasons`.
+pub fn reasons_of_input(input: &[u8]) -> String {
+    within_limit(input, |bundle| reasons(bundle, false))
 }
 
-/// With what `behind` gives behind the numbers of each mark.
-fn report_with(input: &[u8], behind: impl Fn(usize) -> String) -> String {
+/// Each mark that doesn't hold with its sentence behind it. Grouped, as
+/// `reasons_folder` has it, the marks that are not judged have one line for each
+/// file that keeps them from it, behind the others.
+pub fn reasons(bundle: &[u8], grouped: bool) -> String {
+    judged_text(bundle, |board| {
+        let mut lines = Vec::new();
+        let mut kept: BTreeMap<usize, usize> = BTreeMap::new();
+        for (number, mark) in board.faults() {
+            match reason(bundle, number) {
+                Reason::NotJudged { file } if grouped => *kept.entry(file).or_default() += 1,
+                told => {
+                    let words = sentence(bundle, number, &told);
+                    lines.push(format!("{} {words}", numbers(number, mark)));
+                }
+            }
+        }
+        lines.extend(kept.into_iter().map(|(file, marks)| kept_from_judgement(file, marks)));
+        lines
+    })
+}
+
+fn within_limit(input: &[u8], text: impl Fn(&[u8]) -> String) -> String {
     if input.len() > LARGEST_INPUT {
         return refused_bundle(WRONG_SIZE);
     }
-    let verdict = judge(input);
+    text(input)
+}
+
+/// What every text has, around the lines of its marks.
+fn judged_text(bundle: &[u8], lines: impl Fn(&Board) -> Vec<String>) -> String {
+    let verdict = judge(bundle);
     if verdict.refusal != 0 {
         return refused_bundle(verdict.refusal);
     }
     let mut text = String::from("marks 81\n");
-    for (number, mark) in verdict.board.faults() {
-        let more = behind(number);
-        text += &format!("{number} {} {} {}{more}\n", mark.kind, mark.place, mark.companion);
+    for line in lines(&verdict.board) {
+        text += &line;
+        text.push('\n');
     }
     match verdict.board.faults().count() {
         0 => text += "accepted\n",
@@ -38,34 +71,8 @@ fn report_with(input: &[u8], behind: impl Fn(usize) -> String) -> String {
     text
 }
 
-/// With a space in front. A file's own mark gives its numbers alone.
-fn words(bundle: &[u8], mark: usize) -> String {
-    match reason(bundle, mark) {
-        Reason::Refused(_) | Reason::Holds | Reason::OwnMark(_) => String::new(),
-        Reason::NotJudged { file } => format!(" unreadable {}", FILE_NAMES[file]),
-        Reason::Broken(shown) if is_key(mark) => {
-            format!("{} repeats record {}", words_of_shown(bundle, shown), shown.companion)
-        }
-        Reason::Broken(shown) => words_of_shown(bundle, shown),
-        Reason::Missing { shown, searched } => {
-            format!("{} not in {}", words_of_shown(bundle, shown), FILE_NAMES[searched])
-        }
-    }
-}
-
-fn is_key(mark: usize) -> bool {
-    (20..=35).contains(&mark)
-}
-
-/// Nothing for an empty value. A value is one JSON token without raw control
-/// bytes, so that a line stays a line.
-fn words_of_shown(bundle: &[u8], shown: Shown) -> String {
-    let table = FILE_NAMES[shown.file];
-    let field = format!(" {table} record {} {}", shown.record, shown.field_name());
-    match std::str::from_utf8(shown.value(bundle)).expect("a readable file is UTF-8") {
-        "" => field,
-        value => format!("{field} {value}"),
-    }
+fn numbers(number: usize, mark: Mark) -> String {
+    format!("{number} {} {} {}", mark.kind, mark.place, mark.companion)
 }
 
 fn refused_bundle(refusal: u32) -> String {

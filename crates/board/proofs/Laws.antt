@@ -1,4 +1,4 @@
--- What is written of a board of 81 marks, and what an accepted board says of each mark.
+-- What is written of so many marks, and what an accepted board says of each mark.
 -- Assumes nothing.
 use Prim.Native.Nat.{ℕ, _≤_, _<_}
 use mathlib.Core.Path.{_≡_, refl, _∙_}
@@ -10,29 +10,29 @@ use lib.ListN.{length, getD, drop}
 use lib.Dec.{leb}
 use Rattle.mark_numbers.specs.Marks.{Marks, haveLength, faultsIn}
 use Rattle.mark_numbers.proofs.Laws.{Long, long-lists, none-says, none-if}
-use Rattle.report.specs.Report.{reportOf, textIn}
+use Rattle.report.specs.Report.{reportOf, textRoom, textIn}
 use Rattle.report.proofs.Written.{text-whole, text-short}
 use Rattle.board.specs.Board.{faultsOf, acceptedBoard}
 use Rattle.board.specs.declared.Board.{Board}
 
-module _ (refusal : ℕ) (marks : Marks) (out : List ℕ) (long : Long 81 marks) where
-  -- the text of 81 marks is written exactly where there are 6,144 bytes
-  text-is : textIn refusal marks (length out) ≡ cond (leb 6144 (length out)) (reportOf refusal marks) []
-  text-is = go (leb 6144 (length out)) refl
+module _ (n : ℕ) (few : n ≤ 999) (refusal : ℕ) (marks : Marks) (out : List ℕ) (long : Long n marks) where
+  -- the text of n marks is written exactly where there is room for it
+  text-is : textIn refusal marks (length out) ≡ cond (leb (textRoom n) (length out)) (reportOf refusal marks) []
+  text-is = go (leb (textRoom n) (length out)) refl
     where
-      n : length (marks .kinds) ≡ 81
-      n = long .kinds-long
+      many : length (marks .kinds) ≡ n
+      many = long .kinds-long
 
       same : haveLength (length (marks .kinds)) marks ≡ true
-      same = rw n (long-lists 81 marks long)
+      same = rw many (long-lists n marks long)
 
-      go : (t : Bool) → leb 6144 (length out) ≡ t → textIn refusal marks (length out) ≡ cond t (reportOf refusal marks) []
-      go true e = text-whole refusal marks (length out) same (omega (arith, n)) (omega (arith, n, leb-true 6144 (length out) e))
-      go false e = text-short refusal marks (length out) same (omega (arith, n)) (omega (arith, n, leb-false 6144 (length out) e))
+      go : (t : Bool) → leb (textRoom n) (length out) ≡ t → textIn refusal marks (length out) ≡ cond t (reportOf refusal marks) []
+      go true e = text-whole refusal marks (length out) same (omega (arith, many)) (omega (arith, many, leb-true (textRoom n) (length out) e))
+      go false e = text-short refusal marks (length out) same (omega (arith, many)) (omega (arith, many, leb-false (textRoom n) (length out) e))
 
-  pub board-written : {r : ℕ} {exit : List ℕ} → (r ≡ length (textIn refusal marks (length out))) × ((exit ≡ textIn refusal marks (length out) ++ drop (length (textIn refusal marks (length out))) out) × (r ≤ length out))
-      → (r ≡ cond (leb 6144 (length out)) (length (reportOf refusal marks)) 0) × ((exit ≡ cond (leb 6144 (length out)) (reportOf refusal marks ++ drop (length (reportOf refusal marks)) out) out) × (r ≤ length out))
-  board-written {r} {exit} (a, (b, c)) = go (leb 6144 (length out)) text-is
+  pub marks-written : {r : ℕ} {exit : List ℕ} → (r ≡ length (textIn refusal marks (length out))) × ((exit ≡ textIn refusal marks (length out) ++ drop (length (textIn refusal marks (length out))) out) × (r ≤ length out))
+      → (r ≡ cond (leb (textRoom n) (length out)) (length (reportOf refusal marks)) 0) × ((exit ≡ cond (leb (textRoom n) (length out)) (reportOf refusal marks ++ drop (length (reportOf refusal marks)) out) out) × (r ≤ length out))
+  marks-written {r} {exit} (a, (b, c)) = go (leb (textRoom n) (length out)) text-is
     where
       go : (t : Bool) → textIn refusal marks (length out) ≡ cond t (reportOf refusal marks) [] → (r ≡ cond t (length (reportOf refusal marks)) 0) × ((exit ≡ cond t (reportOf refusal marks ++ drop (length (reportOf refusal marks)) out) out) × (r ≤ length out))
       go true e = (a ∙ rw e, (b ∙ rw e, c))

@@ -4,7 +4,7 @@ use Prim.Native.Nat.{ℕ, _+_}
 use mathlib.Core.Bool.{cond, _&&_}
 use mathlib.Core.List.{List, [], _∷_, map}
 use lib.ListN.{length, getD}
-use lib.Dec.{leb, ltb}
+use lib.Dec.{leb, ltb, eqb}
 use Rattle.table_rows.specs.Ascii.{codes}
 
 unfoldable pub fileNames : List (List ℕ)
@@ -30,7 +30,19 @@ fileNames =
     codes "ResourceCustomFieldValues.json" ∷
     codes "ResourceAssignments.json" ∷ []
 
--- each behind a slash, as it stands in a path
+-- a file's name; nothing for a number over 19
+unfoldable pub fileName : ℕ → List ℕ
+fileName file = getD fileNames file []
+
+-- a table's name: that of its file up to the dot
+unfoldable pub upToDot : List ℕ → List ℕ
+upToDot [] = []
+upToDot (b ∷ name) = cond (eqb b 46) [] (b ∷ upToDot name)
+
+unfoldable pub tableName : ℕ → List ℕ
+tableName file = upToDot (fileName file)
+
+-- each name behind a slash, as it stands in a path
 unfoldable pub tails : List (List ℕ)
 tails = map (λ name. 47 ∷ name) fileNames
 

@@ -1,9 +1,12 @@
-// The names of the 20 files of a set, and a file's path in a folder.
+// The names of the 20 files of a set and of their tables, and a file's path in a folder.
 ghost use mathlib.Core.Path.{_≡_};
+ghost use Prim.Native.Nat.{_-_};
 ghost use Rattle.bundle_bytes.specs.Pieces.{written};
-ghost use Rattle.file_names.specs.Names.{tailOf, pathLength};
-ghost use Rattle.file_names.specs.Flat.{allTails, tailStart};
+ghost use Rattle.file_names.specs.Names.{tailOf, fileName, tableName, pathLength};
+ghost use Rattle.output.specs.Output.{outputAt, put};
+ghost use Rattle.file_names.specs.Flat.{allTails, tailStart, dotBefore};
 use bundle_bytes::put_part;
+use output::put_text;
 use parts::part;
 
 // The names one behind the other, each behind a slash, as it stands in a path.
@@ -48,6 +51,49 @@ fn tail_start(file: usize) -> usize
         return STARTS[file];
     }
     STARTS[20]
+}
+
+// Puts a file's name into an output; for a number over 19 nothing.
+pub fn put_file_name(out: &mut [u8], at: usize, file: usize) -> usize
+    ensures { λ r. ⌜ outputAt (now (out .exit)) r ≡ put (outputAt (now (out .entry)) at) (fileName file) ⌝ }
+{
+    if 19 < file {
+        return at;
+    }
+    let tails = tails();
+    let tail = part(&tails, tail_start(file), tail_start(file + 1));
+    put_text(out, at, part(tail, 1, tail.len()))
+}
+
+fn less(a: usize, b: usize) -> usize
+    ensures { λ r. ⌜ r ≡ a - b ⌝ }
+{
+    if a < b {
+        return 0;
+    }
+    a - b
+}
+
+// Where the dot stands in a file's name that ends at a place.
+fn dot_before(file: usize, end: usize) -> usize
+    ensures { λ r. ⌜ r ≡ dotBefore file end ⌝ }
+{
+    if file == 0 {
+        return less(end, 4);
+    }
+    less(end, 5)
+}
+
+// Puts a table's name, which is its file's up to the dot.
+pub fn put_table_name(out: &mut [u8], at: usize, file: usize) -> usize
+    ensures { λ r. ⌜ outputAt (now (out .exit)) r ≡ put (outputAt (now (out .entry)) at) (tableName file) ⌝ }
+{
+    if 19 < file {
+        return at;
+    }
+    let tails = tails();
+    let tail = part(&tails, tail_start(file), tail_start(file + 1));
+    put_text(out, at, part(tail, 1, dot_before(file, tail.len())))
 }
 
 // Makes the path of a file in the folder whose name is the first `folder` bytes of `path`: writes a

@@ -1,7 +1,7 @@
 -- A verdict from the numbers that a call over lists answers and the lists that it leaves; and that memory of a call's own is
 -- room enough.
 -- Assumes nothing.
-use Prim.Native.Nat.{ℕ, _+_, _-_, _<_}
+use Prim.Native.Nat.{ℕ, _+_, _-_, _≤_, _<_}
 use mathlib.Core.Path.{_≡_, refl, sym, ap, _∙_}
 use mathlib.Core.List.{List, [], _∷_}
 use native.Mathlib.Omega.{arith}
@@ -42,7 +42,10 @@ verdict-is x {made} {kinds} {places} {companions} (e, (q, left)) =
     (ap (λ (m : Made). with-board m (marksIn kinds places companions)) e ∙ ap (with-board (madeOf x)) q, left)
 
 -- ---- so many numbers and lists of 81 are room enough
-module _ {lent : ℕ} (w : lent ≡ 794702) where
+pub own-room : {lent : ℕ} → lent ≡ 794702 → 794702 ≤ lent
+own-room e = omega arith
+
+module _ {lent : ℕ} (w : 794702 ≤ lent) where
   has-room : (handed : Marks) → Long 81 handed → lentFault schedule lent handed ≡ 0
   unfolding lentFault hasLists hasRoom
   has-room handed long =

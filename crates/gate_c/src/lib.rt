@@ -1,16 +1,20 @@
 // The gate for programs in other languages: numbers and lent lists in, a number out. A board is three
 // lists of 81. A call whose lists have other lengths than they must have answers 100 and writes
-// nothing. Judging, trying and making are done in the lent workspace `work`: one that is too short is
-// refused as 14, and what they leave in it may be lent again.
+// nothing. Judging, trying, making and telling a reason are done in the lent workspace `work`: one that
+// is too short is refused as 14, and what they leave in it may be lent again.
 ghost use mathlib.Core.Path.{_≡_};
 ghost use mathlib.Core.List.{_++_};
 ghost use lib.ListN.{length, drop, set};
 ghost use Rattle.mark_numbers.specs.Marks.{marksIn, faultsIn};
+ghost use Rattle.reason_numbers.specs.Numbers.{toldNumbers};
+ghost use Rattle.table_rows.specs.Rows.{nameAt};
 ghost use Rattle.bundle_bytes.specs.Pieces.{written};
 ghost use Rattle.bundle_layout.specs.Put.{emptyBundle};
 ghost use Rattle.gate_calls.specs.Lent.{judgedIn, judgeLeft, changeLeft};
+ghost use Rattle.gate_calls.specs.Reasons.{refusalOf, reasonLeft};
 ghost use Rattle.schedule.specs.Schedule.{schedule};
 ghost use Rattle.gate_c.specs.Calls.{unlessRefused, callFault, fileHanded, tryCalled, makeCalled, outputCalled, sizeAfter, textCalled, freshFault, freshCalled, fileFault, presentNumber, placeOf, nameOf, lengthIn};
+ghost use Rattle.gate_c.specs.Reasons.{reasonCalled, fieldNameOf};
 use bundle::Made;
 use bundle::is_omitted;
 use bundle::length_at;
@@ -21,12 +25,22 @@ use file_names::put_path;
 use gate_lists::Which;
 use gate_lists::judge_lists;
 use gate_lists::make_lists;
+use gate_lists::reason_lists;
 use gate_lists::try_lists;
 use mark_numbers::count_faults;
 use mark_numbers::have_length;
 use mark_numbers::make_fresh;
 use parts::part;
+use reason_answer::Reason;
+use reason_numbers::put_reason;
 use report::report;
+use table_fields::field_names;
+use table_fields::field_rows;
+use table_rows::field_count;
+use table_rows::first_field;
+use table_rows::name_end;
+use table_rows::name_start;
+use table_rows::rows_after;
 
 // What is wrong with the lists and numbers of a call with a change, 100 or 101, or 0.
 fn call_fault(
@@ -293,4 +307,73 @@ pub extern "C" fn knotsaddle_file_name(file: usize, out: &mut [u8]) -> usize
     let mut path = [0u8; 36];
     let end = put_path(&mut path, 0, file);
     put_front(out, part(&path, 1, end))
+}
+
+// ---- The reason of a mark
+
+fn refusal_of(told: Reason) -> u32
+    ensures { λ r. ⌜ r ≡ refusalOf told ⌝ }
+{
+    match told {
+        Reason::Refused { refusal } => refusal,
+        Reason::Holds => 0,
+        Reason::NotJudged { file: _ } => 0,
+        Reason::OwnMark {
+            kind: _,
+            place: _,
+            companion: _,
+        } => 0,
+        Reason::Broken { shown: _ } => 0,
+        Reason::Missing {
+            shown: _,
+            searched: _,
+        } => 0,
+    }
+}
+
+// What is told of a mark of a bundle: the refusal or 0; `told` gets its nine numbers.
+#[no_mangle]
+pub extern "C" fn knotsaddle_reason(
+    bundle: &[u8],
+    mark: usize,
+    told: &mut [usize],
+    work: &mut [u32],
+) -> u32
+    ensures { λ r. ⌜ r ≡ refusalOf (reasonCalled schedule (now (bundle .entry)) mark (now (told .entry)) (length (now (work .entry)))) ⌝ }
+    ensures { λ r. ⌜ now (told .exit) ≡ unlessRefused r (toldNumbers (reasonCalled schedule (now (bundle .entry)) mark (now (told .entry)) (length (now (work .entry))))) (now (told .entry)) ⌝ }
+    ensures { λ _. ⌜ now (work .exit) ≡ reasonLeft schedule (now (bundle .entry)) mark (reasonCalled schedule (now (bundle .entry)) mark (now (told .entry)) (length (now (work .entry)))) (now (work .entry)) ⌝ }
+{
+    if told.len() != 9 {
+        return 100;
+    }
+    let reason = reason_lists(Which::Schedule, bundle, mark, work);
+    let refused = refusal_of(reason);
+    if refused != 0 {
+        return refused;
+    }
+    put_reason(reason, told);
+    0
+}
+
+// The name of a field of lent rows.
+fn name_part<'a>(rows: &'a [u32], names: &'a [u8], field: usize) -> &'a [u8]
+    ensures { λ r. ⌜ now r ≡ nameAt (now (rows .entry)) (now (names .entry)) field ⌝ }
+{
+    part(names, name_start(rows, field), name_end(rows, field))
+}
+
+// Writes the name of a field of a file, both by their numbers, to the front of `out` and answers its
+// length; 0 and nothing written where there is no such field and where `out` is shorter.
+#[no_mangle]
+pub extern "C" fn knotsaddle_field_name(file: usize, field: usize, out: &mut [u8]) -> usize
+    ensures { λ r. ⌜ r ≡ lengthIn (now (out .entry)) (fieldNameOf file field) ⌝ }
+    ensures { λ _. ⌜ now (out .exit) ≡ written (now (out .entry)) 0 (fieldNameOf file field) ⌝ }
+{
+    let rows = field_rows();
+    let names = field_names();
+    if field_count(&rows, file) <= field {
+        return 0;
+    }
+    let own = rows_after(&rows, first_field(&rows, file));
+    put_front(out, name_part(own, &names, field))
 }

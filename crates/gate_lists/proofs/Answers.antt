@@ -6,7 +6,7 @@ use mathlib.Core.Bool.{Bool, true, false, cond, and-false}
 use mathlib.Core.List.{List}
 use native.Mathlib.Omega.{arith}
 use borrow.Author.Tests.{lt-leb, le-leb, eq-eqb, ne-eqb, eqb-true}
-use lib.ListN.{length, set}
+use lib.ListN.{length}
 use lib.Dec.{leb, ltb, eqb}
 use Rattle.parts.specs.Files.{File, newFile}
 use Rattle.mark_numbers.specs.Marks.{Marks, markIn, haveLength, freshMarks, freshOver}
@@ -28,9 +28,11 @@ use Rattle.gate_calls.proofs.Lent.{lent-lists, lent-room, lent-judge, lent-try,
 use Rattle.standing.specs.Standing.{standing, placed}
 use Rattle.standing.proofs.Laws.{placed-fits}
 use Rattle.schedule.specs.Schedule.{schedule}
-use Rattle.schedule.proofs.Laws.{files-are, marks-are, workspace-is}
+use Rattle.schedule.proofs.Laws.{files-are}
+use Rattle.baseline.specs.Baseline.{baseline}
+use Rattle.baseline.proofs.Laws.{files-are as baseline-files}
 use Rattle.gate_lists.specs.declared.Which.{Which}
-use Rattle.gate_lists.specs.declared.Which.the-variants.{Schedule}
+use Rattle.gate_lists.specs.declared.Which.the-variants.{Schedule, Baseline}
 use Rattle.gate_lists.specs.Which.{gateCalled, madeOf}
 use Rattle.gate_lists.specs.Stands.{standsIn}
 use Rattle.gate_lists.proofs.Stands.{stands-length, stands-bundle, stands-after}
@@ -186,25 +188,17 @@ module _ (g : Gate) (scope : Scope) (files : ℕ → File) (work : List ℕ) whe
 pub files-of : (which : Which) → 20 ≡ gateCalled which .files
 unfolding gateCalled
 files-of Schedule = sym files-are
+files-of Baseline = sym baseline-files
 
-pub marks-of : (which : Which) → 81 ≡ marksOf (gateCalled which)
-unfolding gateCalled
-marks-of Schedule = sym marks-are
+-- what is called by a name is that gate
+module _ {which : Which} where
+  pub is-schedule : which ≡ Schedule → schedule ≡ gateCalled which
+  unfolding gateCalled
+  is-schedule e = sym (ap gateCalled e)
 
-pub workspace-of : (which : Which) → 794702 ≡ workspaceOf (gateCalled which)
-unfolding gateCalled
-workspace-of Schedule = sym workspace-is
-
-pub called-is : (which : Which) → schedule ≡ gateCalled which
-unfolding gateCalled
-called-is Schedule = refl
-
--- what one gate's marks are, they are of the gate that was called
-pub judged-called : (which : Which) (scope : Scope) (files : ℕ → File) (lent : ℕ) (handed : Marks) (work : List ℕ) {could : Bool} {marks : Marks} {last : List ℕ}
-    → (could ≡ canJudge schedule lent handed) × ((marks ≡ marksAfter schedule scope files lent handed) × (last ≡ workAfterwards schedule scope files handed work))
-    → (could ≡ canJudge (gateCalled which) lent handed) × ((marks ≡ marksAfter (gateCalled which) scope files lent handed) × (last ≡ workAfterwards (gateCalled which) scope files handed work))
-judged-called which scope files lent handed work (a, (b, c)) =
-    (a ∙ ap (λ g. canJudge g lent handed) (called-is which), (b ∙ ap (λ g. marksAfter g scope files lent handed) (called-is which), c ∙ ap (λ g. workAfterwards g scope files handed work) (called-is which)))
+  pub is-baseline : which ≡ Baseline → baseline ≡ gateCalled which
+  unfolding gateCalled
+  is-baseline e = sym (ap gateCalled e)
 
 -- ---- the answers of the calls, as the code comes to them
 -- lists that were not refused are as long as there are marks

@@ -22,26 +22,20 @@ use Rattle.reason.proofs.Told.{reason-same}
 use Rattle.gate_calls.specs.Lent.{workLeft}
 use Rattle.gate_calls.specs.Reasons.{reasonOf, reasonAsked, refusalOf, reasonLeft}
 use Rattle.gate_calls.proofs.Reasons.{reason-told}
-use Rattle.schedule.specs.Schedule.{schedule}
 use Rattle.schedule.proofs.Laws.{marks-are}
+use Rattle.baseline.proofs.Laws.{marks-are as baseline-marks}
 use Rattle.gate_lists.specs.declared.Which.{Which}
-use Rattle.gate_lists.specs.declared.Which.the-variants.{Schedule}
+use Rattle.gate_lists.specs.declared.Which.the-variants.{Schedule, Baseline}
 use Rattle.gate_lists.specs.Which.{gateCalled}
 use Rattle.gate_lists.specs.Stands.{standsIn}
 use Rattle.gate_lists.proofs.Stands.{starts-bundle, offset-fits}
-use Rattle.gate_lists.proofs.Answers.{called-is, work-untouched}
-
--- ---- of the gate that was called
-pub told-called : (which : Which) (offset : ℕ → ℕ) (files : ℕ → File) (lent m : ℕ) (work : List ℕ) {told : Reason} {last : List ℕ}
-    → (told ≡ reasonIn schedule offset files lent m) × (last ≡ workTold schedule files m work)
-    → (told ≡ reasonIn (gateCalled which) offset files lent m) × (last ≡ workTold (gateCalled which) files m work)
-told-called which offset files lent m work (a, b) =
-    (a ∙ ap (λ g. reasonIn g offset files lent m) (called-is which), b ∙ ap (λ g. workTold g files m work) (called-is which))
+use Rattle.gate_lists.proofs.Answers.{work-untouched}
 
 -- no gate has more marks than there are lists for
 pub few-marks : (which : Which) → marksOf (gateCalled which) ≤ 128
 unfolding gateCalled
 few-marks Schedule = omega (arith, marks-are)
+few-marks Baseline = omega (arith, baseline-marks)
 
 -- ---- where the files of a bundle start, as they were put down
 pub bundle-starts : (s b c stand₀ stand : List ℕ) {n : ℕ} (m : ℕ) → n ≡ m → n ≤ length stand₀ / 3 → stand ≡ standsIn s n stand₀ → bundleFault m s ≡ 0 → (i : ℕ) → i < m → startStanding s b c stand i ≡ offsetAt s i

@@ -4,11 +4,13 @@ use Rattle.bundle.specs.declared.Made.{Made}
 use Rattle.gate_marks.specs.Gate.{Gate}
 use Rattle.gate_calls.specs.Calls.{Answer}
 use Rattle.schedule.specs.Schedule.{schedule}
+use Rattle.baseline.specs.Baseline.{baseline}
 use Rattle.gate_lists.specs.declared.Which.{Which}
-use Rattle.gate_lists.specs.declared.Which.the-variants.{Schedule}
+use Rattle.gate_lists.specs.declared.Which.the-variants.{Schedule, Baseline}
 
 unfoldable pub gateCalled : Which → Gate
 gateCalled Schedule = schedule
+gateCalled Baseline = baseline
 
 -- the numbers of an answer; its marks are in the lists
 unfoldable pub madeOf : Answer → Made

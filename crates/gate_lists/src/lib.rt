@@ -17,6 +17,8 @@ ghost use Rattle.gate_calls.specs.Lent.{lentFault, judgedIn, triedIn, madeIn, o
 ghost use Rattle.gate_calls.specs.Reasons.{reasonAsked, reasonLeft};
 ghost use Rattle.gate_lists.specs.Which.{gateCalled, madeOf};
 ghost use Rattle.gate_lists.specs.Stands.{standsIn};
+use baseline::baseline_marks;
+use baseline::baseline_reason;
 use bundle::Made;
 use bundle::bundle_fault;
 use bundle::is_omitted;
@@ -32,9 +34,10 @@ use schedule::schedule_marks;
 use schedule::schedule_reason;
 use standing::place;
 
-// The gates: document 01's.
+// The gates: document 01's, and that of document 02's baseline profile.
 pub enum Which {
     Schedule,
+    Baseline,
 }
 
 // How many files a set of the gate has.
@@ -43,6 +46,7 @@ pub fn file_count(which: Which) -> usize
 {
     match which {
         Which::Schedule => 20,
+        Which::Baseline => 20,
     }
 }
 
@@ -51,6 +55,7 @@ pub fn mark_count(which: Which) -> usize
 {
     match which {
         Which::Schedule => 81,
+        Which::Baseline => 85,
     }
 }
 
@@ -60,6 +65,7 @@ pub fn workspace(which: Which) -> usize
 {
     match which {
         Which::Schedule => 794702,
+        Which::Baseline => 794702,
     }
 }
 
@@ -124,6 +130,7 @@ fn judge_standing<'a>(
 {
     match which {
         Which::Schedule => schedule_marks(a, b, c, stand, scope, work, kinds, places, companions),
+        Which::Baseline => baseline_marks(a, b, c, stand, scope, work, kinds, places, companions),
     }
 }
 
@@ -327,6 +334,7 @@ fn reason_standing<'a>(
 {
     match which {
         Which::Schedule => schedule_reason(a, b, c, stand, mark, work),
+        Which::Baseline => baseline_reason(a, b, c, stand, mark, work),
     }
 }
 

@@ -42,12 +42,12 @@ pub record Filled (f : ℕ → ℕ) (old : List ℕ) (i : ℕ) (list : List ℕ)
   pub long : length list ≡ length old
 
 module _ (f : ℕ → ℕ) (old : List ℕ) where
-  fill-starts : Filled f old 0 old
+  pub fill-starts : Filled f old 0 old
   unfolding listOf
   fill-starts = record { is = refl; long = refl }
 
   module _ {i : ℕ} {list : List ℕ} (so-far : Filled f old i list) where
-    fill-stores : i < length old → (v : ℕ) → v ≡ f i → Filled f old (i + 1) (set list i v)
+    pub fill-stores : i < length old → (v : ℕ) → v ≡ f i → Filled f old (i + 1) (set list i v)
     fill-stores l v e =
         record {
           is = rw (so-far .is, drop-cons old i 0 l, list-next f i, add-one i, append-snoc (listOf f i) (f i), e) (set-at (listOf f i) (getD old i 0) (drop (suc i) old) (f i) i (list-length f i));
@@ -61,7 +61,7 @@ module _ (f : ℕ → ℕ) (old : List ℕ) where
           long = so-far .long;
         }
 
-    fill-ends : length old ≤ i → list ≡ listOf f i
+    pub fill-ends : length old ≤ i → list ≡ listOf f i
     fill-ends l = so-far .is ∙ rw (drop-of-length-le old {i = i} l) (append-nil (listOf f i))
 
 pub list-same : (f g : ℕ → ℕ) (n : ℕ) → ((i : ℕ) → i < n → f i ≡ g i) → listOf f n ≡ listOf g n

@@ -3,8 +3,8 @@
 use mathlib.Core.Bool.{Bool, true}
 use Rattle.sorted_numbers.proofs.Opens.{open-sorted}
 use Rattle.json_bytes.proofs.Opens.{open-bytes}
-use Rattle.number_search.specs.Search.{frontBelow, middle, searchFrom, searched}
+use Rattle.number_search.specs.Search.{frontOf, middle, searchFrom, searched}
 
 unfoldable pub open-search : Bool
-unfolding open-sorted open-bytes frontBelow middle searchFrom searched
+unfolding open-sorted open-bytes frontOf middle searchFrom searched
 open-search = true

@@ -20,7 +20,7 @@ use Rattle.gate_calls.specs.Reasons.{reasonOf}
 use Rattle.schedule.specs.Schedule.{due, free, expectedFiles, schedule}
 use Rattle.reason_meaning.specs.Cases.{fileIn, reading, tableHere, kindHere, startHere, markHere, told, Case, broken, missing, cases}
 
-pub reason-cases : map (λ (c : Case). told (c .files) (c .mark)) cases ≡ map (λ (c : Case). c .stated) cases
+pub reason-cases : map (λ (c : Case). told schedule (c .files) (c .mark)) cases ≡ map (λ (c : Case). c .stated) cases
 unfolding open-files open-rules open-reasons open-rows gateOf due free expectedFiles schedule bytesOf startOf headerSize markRead valueStart valueLength shownOf brokenBy isReadable lowestOf unreadOf toldOf fileIn reading tableHere kindHere startHere markHere told broken missing cases
 reason-cases = refl
 

@@ -23,7 +23,7 @@ use Rattle.rule_when.specs.declared.When.{When}
 use Rattle.rule_key.specs.declared.Key.{Key}
 use Rattle.rule_key.proofs.Laws.{Repeat}
 use Rattle.rule_shape.specs.declared.Rule.{Rule}
-use Rattle.rule_shape.specs.declared.Rule.the-variants.{KeyOf, OneOf, NullUnless, GivenIf, GivenUnless, NoneBelow, SomeAbove, Together, LevelRun, ParentGiven, TargetIn, ParentIs, EachHas}
+use Rattle.rule_shape.specs.declared.Rule.the-variants.{KeyOf, OneOf, NullUnless, GivenIf, GivenUnless, NoneBelow, SomeAbove, Together, LevelRun, ParentGiven, AllGiven, NoneGiven, InOrder, TargetIn, ParentIs, EachHas}
 use Rattle.rule_shape.specs.Rule.{firstOf, secondOf}
 use Rattle.rules.specs.declared.Break.{Break}
 use Rattle.rules.specs.Judge.{ruleBreak, isJudged, markOf}
@@ -84,6 +84,9 @@ decides-below places texts (SomeAbove file from to) t u r k d = omega arith
 decides-below places texts (Together file from to) t u r k d = d .inside
 decides-below places texts (LevelRun file level) t u r k d = omega arith
 decides-below places texts (ParentGiven file parent level id) t u r k d = omega arith
+decides-below places texts (AllGiven file from to) t u r k d = d .inside
+decides-below places texts (NoneGiven file from to) t u r k d = d .inside
+decides-below places texts (InOrder file first second) t u r k d = omega (arith, d .0)
 decides-below places texts (TargetIn file field when other id) t u r k d = omega (arith, d .0)
 decides-below places texts (ParentIs file parent level id other otherID otherType value) t u r k d = omega arith
 decides-below places texts (EachHas file field when other id) t u r k d = omega (arith, d .0)

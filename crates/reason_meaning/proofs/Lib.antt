@@ -1,3 +1,4 @@
 pub mod Explained
 pub mod Bundles
 pub mod Cases
+pub mod Numbers

@@ -1,5 +1,5 @@
--- The cases of order 6's readings, each over a few files by their numbers: what is told of a mark. The files are read into 128
--- cells that are 0, enough for each text below; the gate itself has cells for 4,096 records.
+-- The cases of order 6's readings, each over a few files by their numbers: what is told of a mark of a gate over document 01's
+-- files. The files are read into 128 cells that are 0, enough for each text below; the gate itself has cells for 4,096 records.
 use Prim.Native.Nat.{ℕ, _+_, _*_}
 use Prim.Native.String.{String}
 use mathlib.Core.Bool.{cond}
@@ -22,19 +22,18 @@ use Rattle.bundle_layout.specs.Bundle.{headerSize}
 use Rattle.reason_answer.specs.declared.Reason.{Reason}
 use Rattle.reason_answer.specs.declared.Reason.the-variants.{Holds, NotJudged, OwnMark, Broken, Missing}
 use Rattle.reason_answer.specs.Reason.{shownAt}
-use Rattle.gate_marks.specs.Gate.{ruleOf}
+use Rattle.gate_marks.specs.Gate.{Gate, ruleOf}
 use Rattle.gate_marks.specs.Marks.{markRead}
 use Rattle.reason.specs.Reason.{toldOf}
-use Rattle.schedule.specs.Schedule.{schedule}
 
 -- ---- Files by their numbers; any other is omitted
 unfoldable pub fileIn : List (ℕ × String) → ℕ → File
 fileIn [] k = Left
 fileIn (f ∷ rest) k = cond (eqb (f .0) k) (Given (codes (f .1))) (fileIn rest k)
 
-module _ (files : List (ℕ × String)) where
+module _ (g : Gate) (files : List (ℕ × String)) where
   unfoldable pub reading : ℕ → TableRead
-  reading k = fileOf (schedule .expected k) (fileIn files k) (replicate 128 0)
+  reading k = fileOf (g .expected k) (fileIn files k) (replicate 128 0)
 
   unfoldable pub tableHere : ℕ → Table
   tableHere k = let r = reading k in table (bytesOf (fileIn files k)) (r .cells) (2 * length (fieldsOf k)) (r .read .records)
@@ -49,13 +48,13 @@ module _ (files : List (ℕ × String)) where
   -- ---- The mark of a number, and what is told of it
   unfoldable pub markHere : ℕ → Mark
   markHere m =
-      let rule = ruleOf schedule m in
+      let rule = ruleOf g m in
       cond (ltb m 20) (markRead (reading m .read))
       (markOf (isJudged (kindHere (firstOf rule)) (kindHere (secondOf rule))) (ruleBreak valuePlaces valueTexts rule (tableHere (firstOf rule)) (tableHere (secondOf rule))))
 
   unfoldable pub told : ℕ → Reason
   told m =
-      let rule = ruleOf schedule m in
+      let rule = ruleOf g m in
       toldOf 20 m rule (startHere (firstOf rule)) kindHere (tableHere (firstOf rule)) (markHere m)
 
 -- ---- The cases

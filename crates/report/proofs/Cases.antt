@@ -10,7 +10,8 @@ use lib.Dec.{eqb}
 use Rattle.table_rows.specs.Ascii.{codes}
 use Rattle.mark_numbers.specs.Marks.{Marks, marksIn, marksFrom, holds, notJudged, freshMarks}
 use Rattle.mark_numbers.specs.declared.Mark.{Mark}
-use Rattle.report.specs.Report.{decimal, reportOf, textRoom, textIn}
+use Rattle.output.specs.Decimal.{decimal}
+use Rattle.report.specs.Report.{reportOf, textRoom, textIn}
 use Rattle.report.proofs.Opens.{open-report}
 
 abbrev mark : ℕ → ℕ → ℕ → Mark

@@ -1,5 +1,4 @@
 pub mod Opens
-pub mod Digits
 pub mod Puts
 pub mod Lengths
 pub mod Written

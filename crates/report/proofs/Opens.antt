@@ -4,8 +4,9 @@ use mathlib.Core.Bool.{Bool, true}
 use Rattle.table_rows.specs.Ascii.{codes}
 use Rattle.bundle_bytes.specs.Pieces.{joined}
 use Rattle.mark_numbers.proofs.Opens.{open-marks}
-use Rattle.report.specs.Report.{digitsIn, decimal, counted, lineOf, lineIn, linesUpTo, isAccepted, lastLine, boardText, refusalText, reportOf, isPrinted, textIn}
+use Rattle.output.specs.Decimal.{digitsIn, decimal}
+use Rattle.report.specs.Report.{counted, numbersOf, lineOf, lineIn, linesUpTo, isAccepted, lastLine, boardText, refusalText, reportOf, isPrinted, textIn}
 
 unfoldable pub open-report : Bool
-unfolding open-marks codes joined digitsIn decimal counted lineOf lineIn linesUpTo isAccepted lastLine boardText refusalText reportOf isPrinted textIn
+unfolding open-marks codes joined digitsIn decimal counted numbersOf lineOf lineIn linesUpTo isAccepted lastLine boardText refusalText reportOf isPrinted textIn
 open-report = true

@@ -10,8 +10,8 @@ use lib.ListN.{length, drop}
 use Rattle.table_rows.specs.Ascii.{codes}
 use Rattle.mark_numbers.specs.Marks.{Marks, haveLength}
 use Rattle.report.specs.Report.{counted, boardText, refusalText, reportOf, textRoom, isPrinted, textIn}
-use Rattle.report.specs.Output.{outputAt, put}
-use Rattle.report.proofs.Puts.{put-front}
+use Rattle.output.specs.Output.{outputAt, put}
+use Rattle.output.proofs.Puts.{put-front}
 
 -- ---- what is written, by the tests for it
 module _ (refusal : ℕ) (marks : Marks) (room : ℕ) where

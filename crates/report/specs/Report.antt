@@ -1,35 +1,28 @@
 -- Document 01, "The judging program": what it prints, as bytes, of marks however many. Every line ends in a line feed.
-use Prim.Native.Nat.{ℕ, zero, suc, _+_, _*_, _/_, _%_}
-use mathlib.Core.Bool.{Bool, true, false, cond, _&&_}
-use mathlib.Core.List.{List, [], _∷_, _++_}
+use Prim.Native.Nat.{ℕ, _+_, _*_}
+use mathlib.Core.Bool.{Bool, cond, _&&_}
+use mathlib.Core.List.{List, [], _++_}
 use lib.ListN.{length}
-use lib.Dec.{leb, ltb, eqb}
+use lib.Dec.{leb, eqb}
 use Rattle.table_rows.specs.Ascii.{codes}
 use Rattle.bundle_bytes.specs.Pieces.{joined}
+use Rattle.output.specs.Decimal.{decimal}
 use Rattle.mark_numbers.specs.Marks.{Marks, markIn, haveLength, faultsIn}
 use Rattle.mark_numbers.specs.declared.Mark.{Mark}
-
--- ---- Numbers
--- the decimal digits of a number below f, no zeros before them
-unfoldable pub digitsIn : ℕ → ℕ → List ℕ
-digitsIn zero x = []
-digitsIn (suc f) x =
-    elim (ltb x 10) [ true ↦ (48 + x) ∷ [] | false ↦ digitsIn f (x / 10) ++ ((48 + x % 10) ∷ []) ]
-
-unfoldable pub decimal : ℕ → List ℕ
-decimal x = digitsIn (suc x) x
 
 -- ---- Lines
 -- a word and a number
 unfoldable pub counted : List ℕ → ℕ → List ℕ
 counted word x = word ++ decimal x ++ codes "\n"
 
--- "for each mark of kind other than 0 a line of its number, kind and place, single spaces between", and by document 02,
--- order 5, its companion behind them
+-- "its number, kind and place, single spaces between", and by document 02, order 5, its companion behind them
+unfoldable pub numbersOf : ℕ → Mark → List ℕ
+numbersOf m mark =
+    decimal m ++ codes " " ++ decimal (mark .kind) ++ codes " " ++ decimal (mark .place) ++ codes " " ++ decimal (mark .companion)
+
+-- "for each mark of kind other than 0 a line"
 unfoldable pub lineOf : ℕ → Mark → List ℕ
-lineOf m mark =
-    cond (eqb (mark .kind) 0) []
-    (decimal m ++ codes " " ++ decimal (mark .kind) ++ codes " " ++ decimal (mark .place) ++ codes " " ++ decimal (mark .companion) ++ codes "\n")
+lineOf m mark = cond (eqb (mark .kind) 0) [] (numbersOf m mark ++ codes "\n")
 
 unfoldable pub lineIn : Marks → ℕ → List ℕ
 lineIn marks m = lineOf m (markIn marks m)

@@ -1,88 +1,51 @@
 // The judging program's text, made from marks or a refusal.
 ghost use mathlib.Core.Path.{_≡_};
-ghost use mathlib.Core.List.{[], _∷_, _++_};
-ghost use Prim.Native.Nat.{_+_, _%_, _≤_};
+ghost use mathlib.Core.List.{_++_};
+ghost use Prim.Native.Nat.{_≤_};
 ghost use lib.ListN.{length, drop};
 ghost use Rattle.mark_numbers.specs.Marks.{marksIn};
-ghost use Rattle.report.specs.Report.{decimal, counted, lineOf, linesUpTo, lastLine, boardText, textIn};
-ghost use Rattle.report.specs.Output.{outputAt, put, ended};
+ghost use Rattle.report.specs.Report.{counted, numbersOf, lineOf, linesUpTo, lastLine, boardText, textIn};
+ghost use Rattle.output.specs.Output.{outputAt, put};
 use mark_numbers::Mark;
 use mark_numbers::count_faults;
 use mark_numbers::have_length;
 use mark_numbers::mark_in;
+use output::put_byte;
+use output::put_ended;
+use output::put_number;
+use output::put_text;
 
-// Puts a byte to a place, where there is room; answers the place behind it. The functions below put
-// what they make in the same way.
-fn put_byte(out: &mut [u8], at: usize, b: u8) -> usize
-    ensures { λ r. ⌜ outputAt (now (out .exit)) r ≡ put (outputAt (now (out .entry)) at) (b ∷ []) ⌝ }
-{
-    if at < out.len() {
-        out[at] = b;
-        return at + 1;
-    }
-    at
-}
-
-fn put_text(out: &mut [u8], at: usize, text: &[u8]) -> usize
-    ensures { λ r. ⌜ outputAt (now (out .exit)) r ≡ put (outputAt (now (out .entry)) at) (now (text .entry)) ⌝ }
-{
-    let mut end = at;
-    let mut i = 0;
-    while i < text.len() {
-        end = put_byte(out, end, text[i]);
-        i += 1;
-    }
-    end
-}
-
-// A number's last digit.
-fn put_digit(out: &mut [u8], at: usize, x: usize) -> usize
-    ensures { λ r. ⌜ outputAt (now (out .exit)) r ≡ put (outputAt (now (out .entry)) at) ((48 + x % 10) ∷ []) ⌝ }
-{
-    put_byte(out, at, 48 + (x % 10) as u8)
-}
-
-// All of them: those before the last are the digits of a tenth of it.
-fn put_number(out: &mut [u8], at: usize, x: usize) -> usize
-    ensures { λ r. ⌜ outputAt (now (out .exit)) r ≡ put (outputAt (now (out .entry)) at) (decimal x) ⌝ }
-{
-    if x < 10 {
-        return put_digit(out, at, x);
-    }
-    let next = put_number(out, at, x / 10);
-    put_digit(out, next, x)
-}
-
-// A number with a byte behind it.
-fn put_ended(out: &mut [u8], at: usize, x: usize, end: u8) -> usize
-    ensures { λ r. ⌜ outputAt (now (out .exit)) r ≡ put (outputAt (now (out .entry)) at) (ended x end) ⌝ }
-{
-    let next = put_number(out, at, x);
-    put_byte(out, next, end)
-}
-
-// A word and a number, as a line.
-fn put_counted(out: &mut [u8], at: usize, word: &[u8], x: usize) -> usize
+// A word and a number, as a line. It and the functions below put what they make as `output` does.
+pub fn put_counted(out: &mut [u8], at: usize, word: &[u8], x: usize) -> usize
     ensures { λ r. ⌜ outputAt (now (out .exit)) r ≡ put (outputAt (now (out .entry)) at) (counted (now (word .entry)) x) ⌝ }
 {
     let next = put_text(out, at, word);
     put_ended(out, next, x, b'\n')
 }
 
-// A mark's line; one that holds has none.
-fn put_line(out: &mut [u8], at: usize, m: usize, mark: Mark) -> usize
-    ensures { λ r. ⌜ outputAt (now (out .exit)) r ≡ put (outputAt (now (out .entry)) at) (lineOf m mark) ⌝ }
+// The numbers of a mark.
+pub fn put_numbers(out: &mut [u8], at: usize, m: usize, mark: Mark) -> usize
+    ensures { λ r. ⌜ outputAt (now (out .exit)) r ≡ put (outputAt (now (out .entry)) at) (numbersOf m mark) ⌝ }
 {
     let kind = mark.kind as usize;
     let place = mark.place;
     let companion = mark.companion;
-    if kind == 0 {
-        return at;
-    }
     let next = put_ended(out, at, m, b' ');
     let behind = put_ended(out, next, kind, b' ');
     let last = put_ended(out, behind, place, b' ');
-    put_ended(out, last, companion, b'\n')
+    put_number(out, last, companion)
+}
+
+// A mark's line; one that holds has none.
+fn put_line(out: &mut [u8], at: usize, m: usize, mark: Mark) -> usize
+    ensures { λ r. ⌜ outputAt (now (out .exit)) r ≡ put (outputAt (now (out .entry)) at) (lineOf m mark) ⌝ }
+{
+    let kind = mark.kind;
+    if kind == 0 {
+        return at;
+    }
+    let next = put_numbers(out, at, m, mark);
+    put_byte(out, next, b'\n')
 }
 
 fn put_lines(
@@ -104,7 +67,7 @@ fn put_lines(
 }
 
 // The line behind them.
-fn put_last(out: &mut [u8], at: usize, kinds: &[u32]) -> usize
+pub fn put_last(out: &mut [u8], at: usize, kinds: &[u32]) -> usize
     ensures { λ r. ⌜ outputAt (now (out .exit)) r ≡ put (outputAt (now (out .entry)) at) (lastLine (now (kinds .entry))) ⌝ }
 {
     let count = count_faults(kinds);

@@ -1,5 +1,5 @@
 -- The rules over a run of fields of a record, from one field on and up to another, which is no part of it: hours beside
--- zero, and fields that are null together.
+-- zero, fields that are null together, and fields that are all given or none.
 use Prim.Native.Nat.{ℕ, zero, suc, _-_}
 use mathlib.Core.Bool.{Bool, true, false, not, _&&_}
 use mathlib.Core.List.{List, []}
@@ -8,7 +8,7 @@ use Rattle.json_number.specs.declared.Sign.{Sign}
 use Rattle.json_number.specs.declared.Sign.the-variants.{Zero, Above, Below}
 use Rattle.rule_cells.specs.Cells.{Table, table, isGiven, signIn, firstOf}
 use Rattle.rule_hours.specs.declared.Shape.{Shape}
-use Rattle.rule_hours.specs.declared.Shape.the-variants.{SomeBelow, NoneAbove, Mixed}
+use Rattle.rule_hours.specs.declared.Shape.the-variants.{SomeBelow, NoneAbove, Mixed, SomeNull, SomeGiven}
 
 -- ---- The first field of a run that passes a test; the run's end where none does
 -- of n fields from field k on
@@ -49,6 +49,8 @@ breaks SomeBelow t from to r = anyField (isBelow t r) from to
 breaks NoneAbove t from to r = not (anyField (isAbove t r) from to)
 breaks Mixed t from to r =
     anyField (isGiven (t .cells) (t .width) r) from to && anyField (isNull (t .cells) (t .width) r) from to
+breaks SomeNull t from to r = anyField (isNull (t .cells) (t .width) r) from to
+breaks SomeGiven t from to r = anyField (isGiven (t .cells) (t .width) r) from to
 
 -- 68: "no hours below zero"; 70: "hours not below zero"
 unfoldable pub noneBelow : Table → ℕ → ℕ → ℕ
@@ -61,3 +63,11 @@ someAbove t from to = firstOf (breaks NoneAbove t from to) (t .records)
 -- 75: "the five baseline and variance fields all null or none", which asks for no byte of the file
 unfoldable pub together : List ℕ → ℕ → ℕ → ℕ → ℕ → ℕ
 together cells width records from to = firstOf (breaks Mixed (table [] cells width records) from to) records
+
+-- document 02, order 8. 81: "all five baseline fields given"
+unfoldable pub allGiven : List ℕ → ℕ → ℕ → ℕ → ℕ → ℕ
+allGiven cells width records from to = firstOf (breaks SomeNull (table [] cells width records) from to) records
+
+-- 82: "no ActualStartDate or ActualFinishDate"; 84: "no actual dollars or hours given". 0 is given.
+unfoldable pub noneGiven : List ℕ → ℕ → ℕ → ℕ → ℕ → ℕ
+noneGiven cells width records from to = firstOf (breaks SomeGiven (table [] cells width records) from to) records

@@ -1,8 +1,8 @@
 // Rules over the run of fields `from` to `to`, which is no part of it, of every record of a table:
-// hours beside zero, and fields that are null together.
+// hours beside zero, fields that are null together, and fields that are all given or none.
 ghost use mathlib.Core.Path.{_≡_};
-ghost use Rattle.rule_cells.specs.Cells.{table, firstOf};
-ghost use Rattle.rule_hours.specs.Hours.{belowZero, aboveZero, firstField, anyField, isBelow, isNull, breaks, noneBelow, someAbove, together};
+ghost use Rattle.rule_cells.specs.Cells.{table, isGiven, firstOf};
+ghost use Rattle.rule_hours.specs.Hours.{belowZero, aboveZero, firstField, anyField, isBelow, isNull, breaks, noneBelow, someAbove, together, allGiven, noneGiven};
 ghost use Rattle.rule_hours.specs.Asked.{passes};
 use json_number::Sign;
 use rule_cells::is_given;
@@ -21,6 +21,8 @@ enum Shape {
     SomeBelow,
     NoneAbove,
     Mixed,
+    SomeNull,
+    SomeGiven,
 }
 
 // Whether a number is below zero.
@@ -115,6 +117,8 @@ fn is_broken(
             }
             false
         }
+        Shape::SomeNull => any_field(s, cells, width, r, from, to, Ask::Null),
+        Shape::SomeGiven => any_field(s, cells, width, r, from, to, Ask::Given),
     }
 }
 
@@ -175,6 +179,20 @@ pub fn together(cells: &[u32], width: usize, records: usize, from: usize, to: us
     first_broken(b"", cells, width, records, from, to, Shape::Mixed)
 }
 
+// The first record that leaves a field of the run null.
+pub fn all_given(cells: &[u32], width: usize, records: usize, from: usize, to: usize) -> usize
+    ensures { λ x. ⌜ x ≡ allGiven (now (cells .entry)) width records from to ⌝ }
+{
+    first_broken(b"", cells, width, records, from, to, Shape::SomeNull)
+}
+
+// The first record that gives a field of the run.
+pub fn none_given(cells: &[u32], width: usize, records: usize, from: usize, to: usize) -> usize
+    ensures { λ x. ⌜ x ≡ noneGiven (now (cells .entry)) width records from to ⌝ }
+{
+    first_broken(b"", cells, width, records, from, to, Shape::SomeGiven)
+}
+
 // The first field of record r in the run that is below zero; `to` for none.
 pub fn first_below(s: &[u8], cells: &[u32], width: usize, r: usize, from: usize, to: usize) -> usize
     ensures { λ x. ⌜ x ≡ firstField (isBelow (table (now (s .entry)) (now (cells .entry)) width 0) r) from to ⌝ }
@@ -187,4 +205,11 @@ pub fn first_null(cells: &[u32], width: usize, r: usize, from: usize, to: usize)
     ensures { λ x. ⌜ x ≡ firstField (isNull (now (cells .entry)) width r) from to ⌝ }
 {
     first_field(b"", cells, width, r, from, to, Ask::Null)
+}
+
+// The first field of record r in the run that is given; `to` for none.
+pub fn first_given(cells: &[u32], width: usize, r: usize, from: usize, to: usize) -> usize
+    ensures { λ x. ⌜ x ≡ firstField (isGiven (now (cells .entry)) width r) from to ⌝ }
+{
+    first_field(b"", cells, width, r, from, to, Ask::Given)
 }

@@ -25,7 +25,7 @@ use Rattle.rule_cells.proofs.First.{First, first-found, found-first, first-none
 
 -- ---- One key, both ways
 -- two tests of which each passes where the other does are one
-both-ways : (a b : Bool) → (a ≡ true → b ≡ true) → (b ≡ true → a ≡ true) → a ≡ b
+pub both-ways : (a b : Bool) → (a ≡ true → b ≡ true) → (b ≡ true → a ≡ true) → a ≡ b
 both-ways true b f g = sym (f refl)
 both-ways false true f g = g refl
 both-ways false false f g = refl

@@ -128,7 +128,7 @@ fn same_field(
 }
 
 // Whether records i and j have one key; the first field that differs decides.
-fn same_key(s: &[u8], cells: &[u32], width: usize, key: Key, i: usize, j: usize) -> bool
+pub fn same_key(s: &[u8], cells: &[u32], width: usize, key: Key, i: usize, j: usize) -> bool
     ensures { λ r. ⌜ r ≡ sameKey (table (now (s .entry)) (now (cells .entry)) width 0) key i j ⌝ }
 {
     if !same_field(s, cells, width, key.a_kind, key.a, i, j) {
@@ -141,7 +141,7 @@ fn same_key(s: &[u8], cells: &[u32], width: usize, key: Key, i: usize, j: usize)
 }
 
 // The earliest record before i that has i's key, counted from 1; 0 for none.
-fn earliest_same(s: &[u8], cells: &[u32], width: usize, key: Key, i: usize) -> usize
+pub fn earliest_same(s: &[u8], cells: &[u32], width: usize, key: Key, i: usize) -> usize
     ensures { λ r. ⌜ r ≡ earliest (table (now (s .entry)) (now (cells .entry)) width 0) key i ⌝ }
 {
     let mut j = 0;

@@ -1,5 +1,6 @@
 pub mod Answers
 pub mod Values
+pub mod Dates
 pub mod Levels
 pub mod Parents
 pub mod Runs

@@ -18,15 +18,16 @@ use Rattle.rule_hours.specs.Hours.{firstField, anyField, belowZero, isBelow, is
 use Rattle.rule_hours.proofs.Laws.{before-first, first-passes, none-shows}
 use Rattle.rule_outline.specs.declared.Outline.{Outline}
 use Rattle.rule_shape.specs.declared.Rule.{Rule}
-use Rattle.rule_shape.specs.declared.Rule.the-variants.{KeyOf, OneOf, NullUnless, GivenIf, GivenUnless, NoneBelow, SomeAbove, Together, LevelRun, ParentGiven, TargetIn, ParentIs, EachHas}
+use Rattle.rule_shape.specs.declared.Rule.the-variants.{KeyOf, OneOf, NullUnless, GivenIf, GivenUnless, NoneBelow, SomeAbove, Together, LevelRun, ParentGiven, AllGiven, NoneGiven, InOrder, TargetIn, ParentIs, EachHas}
 use Rattle.rules.specs.Judge.{parentBreak, ruleBreak, markOf}
 use Rattle.rules.proofs.Companion.{Broken, broken}
 use Rattle.rule_reason.specs.Reason.{decidingField}
-use Rattle.rule_meaning.specs.Keeps.{Answers, HasItsTarget, Keeps}
+use Rattle.rule_meaning.specs.Keeps.{Answers, Given, HasItsTarget, AllAreGiven, Keeps}
 use Rattle.rule_meaning.specs.Decides.{IsNull, FirstOfRun, IsMissing, Decides, Shows}
 use Rattle.rule_meaning.proofs.Answers.{not-false-true, never-both}
-use Rattle.rule_meaning.proofs.Runs.{key-means, none-below-means, some-above-means, together-means}
+use Rattle.rule_meaning.proofs.Runs.{key-means, none-below-means, some-above-means, together-means, all-given-means, none-given-means}
 use Rattle.rule_meaning.proofs.Values.{enumeration-means, null-unless-means, given-if-means, given-unless-means, target-means}
+use Rattle.rule_meaning.proofs.Dates.{in-order-means}
 use Rattle.rule_meaning.proofs.Levels.{level-run-means}
 use Rattle.rule_meaning.proofs.Parents.{parent-means, parent-type-means}
 
@@ -80,6 +81,9 @@ module _ (places texts : List ℕ) (t u : Table) (few : t .records ≤ 4096) whe
   rule-means (Together file from to) = together-means t from to
   rule-means (LevelRun file level) = level-run-means t level
   rule-means (ParentGiven file parent level id) = rw outline-found (parent-means t level id parent)
+  rule-means (AllGiven file from to) = all-given-means t from to
+  rule-means (NoneGiven file from to) = none-given-means t from to
+  rule-means (InOrder file first second) = in-order-means t first second
   rule-means (TargetIn file field when other id) = target-means t field places texts when u id
   rule-means (ParentIs file parent level id other otherID otherType value) =
       rw outline-found (parent-type-means t level id u otherID otherType (valueTextAt places texts value))
@@ -87,6 +91,13 @@ module _ (places texts : List ℕ) (t u : Table) (few : t .records ≤ 4096) whe
 
   -- the deciding field of a broken rule
   module _ (r : ℕ) where
+    -- where not all fields of a run are given, some is null
+    first-null : (from to : ℕ) → (AllAreGiven t from to r → ⊥) → FirstOfRun (λ (j : ℕ). IsNull t j r) from to (firstField (isNull (t .cells) (t .width) r) from to)
+    unfolding isNull
+    first-null from to broken =
+        first-of-run (isNull (t .cells) (t .width) r) (λ (j : ℕ). IsNull t j r) from to (λ k. null-told (isGiven (t .cells) (t .width) r k))
+        (not-false-true (anyField (isNull (t .cells) (t .width) r) from to) (λ e. broken (λ k a b. not-false (isGiven (t .cells) (t .width) r k) (none-shows (isNull (t .cells) (t .width) r) from to e k a b))))
+
     decides : (rule : Rule) → (Keeps places texts rule t u r → ⊥) → Decides places texts rule t u r (decidingField rule t r)
     unfolding decidingField isBelow isNull
     decides (KeyOf file key) broken = refl
@@ -103,11 +114,15 @@ module _ (places texts : List ℕ) (t u : Table) (few : t .records ≤ 4096) whe
         first-of-run (isBelow t r) (λ (j : ℕ). signIn t r j ≡ Below) from to (λ k. (is-below (signIn t r k), λ e. ap belowZero e))
         (not-false-true (anyField (isBelow t r) from to) (λ e. broken (λ k a b below. never-both (ap belowZero below) (none-shows (isBelow t r) from to e k a b))))
     decides (SomeAbove file from to) broken = refl
-    decides (Together file from to) broken =
-        first-of-run (isNull (t .cells) (t .width) r) (λ (j : ℕ). IsNull t j r) from to (λ k. null-told (isGiven (t .cells) (t .width) r k))
-        (not-false-true (anyField (isNull (t .cells) (t .width) r) from to) (λ e. broken (inr (λ k a b. not-false (isGiven (t .cells) (t .width) r k) (none-shows (isNull (t .cells) (t .width) r) from to e k a b)))))
+    decides (Together file from to) broken = first-null from to (λ all. broken (inr all))
     decides (LevelRun file level) broken = refl
     decides (ParentGiven file parent level id) broken = refl
+    decides (AllGiven file from to) broken = first-null from to broken
+    decides (NoneGiven file from to) broken =
+        first-of-run (isGiven (t .cells) (t .width) r) (λ (j : ℕ). Given t j r) from to (λ k. (λ g. g, λ g. g))
+        (not-false-true (anyField (isGiven (t .cells) (t .width) r) from to) (λ e. broken (λ k a b g. never-both g (none-shows (isGiven (t .cells) (t .width) r) from to e k a b))))
+    decides (InOrder file first second) broken =
+        (refl, not-false-true (isGiven (t .cells) (t .width) r first) (λ e. broken (λ g _ _. never-both g e)))
     decides (TargetIn file field when other id) broken = (refl, is-missing t field when u id places texts r broken)
     decides (ParentIs file parent level id other otherID otherType value) broken = refl
     decides (EachHas file field when other id) broken = (refl, is-missing t field when u id places texts r broken)

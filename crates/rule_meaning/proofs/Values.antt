@@ -32,7 +32,7 @@ not-and true b = (λ e h. refl, λ h. refl)
 not-and false b = (λ e h. absurd (never-both h e), λ h. not-true-false b (λ e. never-both (h e) refl))
 
 -- three tests in a row fail exactly if the last does where the others pass
-and-and : (a b c : Bool) → ((a && (b && c)) ≡ false) ↔ (a ≡ true → b ≡ true → c ≡ false)
+pub and-and : (a b c : Bool) → ((a && (b && c)) ≡ false) ↔ (a ≡ true → b ≡ true → c ≡ false)
 and-and true true c = (λ e _ _. e, λ h. h refl refl)
 and-and true false c = (λ e _ h. absurd (never-both h refl), λ h. refl)
 and-and false b c = (λ e h _. absurd (never-both h refl), λ h. refl)

@@ -9,7 +9,7 @@ use Rattle.rule_cells.specs.Cells.{Table, sameText, signIn}
 use Rattle.rule_when.specs.When.{isValue}
 use Rattle.rule_when.specs.declared.When.{When}
 use Rattle.rule_shape.specs.declared.Rule.{Rule}
-use Rattle.rule_shape.specs.declared.Rule.the-variants.{KeyOf, OneOf, NullUnless, GivenIf, GivenUnless, NoneBelow, SomeAbove, Together, LevelRun, ParentGiven, TargetIn, ParentIs, EachHas}
+use Rattle.rule_shape.specs.declared.Rule.the-variants.{KeyOf, OneOf, NullUnless, GivenIf, GivenUnless, NoneBelow, SomeAbove, Together, LevelRun, ParentGiven, AllGiven, NoneGiven, InOrder, TargetIn, ParentIs, EachHas}
 use Rattle.rule_meaning.specs.Keeps.{Given, Meets, Keeps}
 
 -- field k of record r is null
@@ -46,6 +46,10 @@ Decides places texts (NoneBelow file from to) t u r k = FirstOfRun (λ j. signIn
 Decides places texts (SomeAbove file from to) t u r k = k ≡ from
 -- the first null of the run
 Decides places texts (Together file from to) t u r k = FirstOfRun (λ j. IsNull t j r) from to k
+-- of order 8 the first null of the run, the first that is given, and the first of two Dates
+Decides places texts (AllGiven file from to) t u r k = FirstOfRun (λ j. IsNull t j r) from to k
+Decides places texts (NoneGiven file from to) t u r k = FirstOfRun (λ j. Given t j r) from to k
+Decides places texts (InOrder file first second) t u r k = (k ≡ first) × Given t k r
 -- the Level, and the parent's ID as the record has it
 Decides places texts (LevelRun file level) t u r k = k ≡ level
 Decides places texts (ParentGiven file parent level id) t u r k = k ≡ parent

@@ -8,14 +8,16 @@ use mathlib.Core.List.{List}
 use Rattle.json_number.specs.declared.Integer.the-variants.{Is}
 use Rattle.json_number.specs.declared.Sign.the-variants.{Above, Below}
 use Rattle.table_rows.specs.Rows.{valueTextAt}
-use Rattle.rule_cells.specs.Cells.{Table, isGiven, sameText, isWord, integerIn, signIn}
+use Rattle.json_date.specs.declared.Date.{Date}
+use Rattle.json_date.specs.declared.Date.the-variants.{Day}
+use Rattle.rule_cells.specs.Cells.{Table, isGiven, sameText, isWord, integerIn, dateIn, signIn}
 use Rattle.rule_when.specs.When.{isValue, holdsWhen}
 use Rattle.rule_when.specs.declared.When.{When}
 use Rattle.rule_key.specs.Key.{sameKey}
 use Rattle.rule_key.specs.declared.Key.{Key}
 use Rattle.rule_outline.specs.Outline.{parentOf}
 use Rattle.rule_shape.specs.declared.Rule.{Rule}
-use Rattle.rule_shape.specs.declared.Rule.the-variants.{KeyOf, OneOf, NullUnless, GivenIf, GivenUnless, NoneBelow, SomeAbove, Together, LevelRun, ParentGiven, TargetIn, ParentIs, EachHas}
+use Rattle.rule_shape.specs.declared.Rule.the-variants.{KeyOf, OneOf, NullUnless, GivenIf, GivenUnless, NoneBelow, SomeAbove, Together, LevelRun, ParentGiven, AllGiven, NoneGiven, InOrder, TargetIn, ParentIs, EachHas}
 
 -- ---- "Kind 1: broken, place the first breaking record", of n records
 pub record Answers (Keeps : ℕ → Type 0) (n answer : ℕ) : Type 0 where
@@ -65,10 +67,28 @@ NoneIsBelow t from to r = (k : ℕ) → from ≤ k → k < to → signIn t r k �
 abbrev pub SomeIsAbove : Table → ℕ → ℕ → ℕ → Type 0
 SomeIsAbove t from to r = (k : ℕ) × (from ≤ k) × (k < to) × (signIn t r k ≡ Above)
 
--- mark 75: "all null or none"
+-- document 02, order 8, marks 82 and 84: no field of the run is given
+abbrev pub NoneIsGiven : Table → ℕ → ℕ → ℕ → Type 0
+NoneIsGiven t from to r = (k : ℕ) → from ≤ k → k < to → Given t k r → ⊥
+
+-- mark 81: all of them are
+abbrev pub AllAreGiven : Table → ℕ → ℕ → ℕ → Type 0
+AllAreGiven t from to r = (k : ℕ) → from ≤ k → k < to → Given t k r
+
+-- document 01, mark 75: "all null or none"
 abbrev pub AllNullOrNone : Table → ℕ → ℕ → ℕ → Type 0
-AllNullOrNone t from to r =
-    ((k : ℕ) → from ≤ k → k < to → Given t k r → ⊥) ⊎ ((k : ℕ) → from ≤ k → k < to → Given t k r)
+AllNullOrNone t from to r = NoneIsGiven t from to r ⊎ AllAreGiven t from to r
+
+-- ---- Two Dates
+-- one Date is after another: in a later year, in a later month of one year, or on a later day of one month
+pub data After : Date → Date → Type 0 where
+  LaterYear : {y m d z n e : ℕ} → z < y → After (Day y m d) (Day z n e)
+  LaterMonth : {y m d n e : ℕ} → n < m → After (Day y m d) (Day y n e)
+  LaterDay : {y m d e : ℕ} → e < d → After (Day y m d) (Day y m e)
+
+-- document 02, order 8, mark 83: the first "not after" the second "where both are given"
+abbrev pub DatesInOrder : Table → ℕ → ℕ → ℕ → Type 0
+DatesInOrder t first second r = Given t first r → Given t second r → After (dateIn t r first) (dateIn t r second) → ⊥
 
 -- ---- The outline
 -- the Level of record r is the whole number l
@@ -108,6 +128,9 @@ Keeps places texts (SomeAbove file from to) t u r = SomeIsAbove t from to r
 Keeps places texts (Together file from to) t u r = AllNullOrNone t from to r
 Keeps places texts (LevelRun file level) t u r = KeepsRun t level r
 Keeps places texts (ParentGiven file parent level id) t u r = HasItsParent t level id parent r
+Keeps places texts (AllGiven file from to) t u r = AllAreGiven t from to r
+Keeps places texts (NoneGiven file from to) t u r = NoneIsGiven t from to r
+Keeps places texts (InOrder file first second) t u r = DatesInOrder t first second r
 Keeps places texts (TargetIn file field when other id) t u r = HasItsTarget t field when u id places texts r
 Keeps places texts (ParentIs file parent level id other otherID otherType value) t u r =
     ParentIsTyped t level id u otherID otherType (valueTextAt places texts value) r

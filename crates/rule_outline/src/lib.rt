@@ -128,7 +128,7 @@ fn parent_in(parents: &[u32], r: usize) -> usize
 }
 
 // The parent to be shown of record r: none at Level 1.
-fn parent_shown(
+pub fn parent_shown(
     s: &[u8],
     cells: &[u32],
     width: usize,

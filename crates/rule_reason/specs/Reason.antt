@@ -2,10 +2,10 @@
 -- 64 the one compared; 65, 66, 71, 72, 76 and 77 the one whose null is asked about; 69 SundayWorkHours; 67, 73 and 74 ID; 75 the
 -- first null; 78 Level; 79 and 80 ParentTaskID; else the first in table order to break it".
 use Prim.Native.Nat.{ℕ}
-use Rattle.rule_cells.specs.Cells.{Table}
+use Rattle.rule_cells.specs.Cells.{Table, isGiven}
 use Rattle.rule_hours.specs.Hours.{firstField, isBelow, isNull}
 use Rattle.rule_shape.specs.declared.Rule.{Rule}
-use Rattle.rule_shape.specs.declared.Rule.the-variants.{KeyOf, OneOf, NullUnless, GivenIf, GivenUnless, NoneBelow, SomeAbove, Together, LevelRun, ParentGiven, TargetIn, ParentIs, EachHas}
+use Rattle.rule_shape.specs.declared.Rule.the-variants.{KeyOf, OneOf, NullUnless, GivenIf, GivenUnless, NoneBelow, SomeAbove, Together, LevelRun, ParentGiven, AllGiven, NoneGiven, InOrder, TargetIn, ParentIs, EachHas}
 use Rattle.rule_reason.specs.declared.Searched.{Searched}
 use Rattle.rule_reason.specs.declared.Searched.the-variants.{In, Nowhere}
 
@@ -32,6 +32,11 @@ decidingField (ParentGiven file parent level id) t r = parent
 decidingField (ParentIs file parent level id other otherID otherType value) t r = parent
 -- "else the first in table order to break it", which leaves 68 and 70
 decidingField (NoneBelow file from to) t r = firstField (isBelow t r) from to
+-- and of order 8's marks 81 by its first null, 82 and 84 by the first that is given: "order 6 explains these too (83 by
+-- BaselineStartDate)"
+decidingField (AllGiven file from to) t r = firstField (isNull (t .cells) (t .width) r) from to
+decidingField (NoneGiven file from to) t r = firstField (isGiven (t .cells) (t .width) r) from to
+decidingField (InOrder file first second) t r = first
 
 -- ---- "A missing target names the table searched": document 01 heads 48–64 alone with "targets"
 unfoldable pub searchedIn : Rule → Searched
@@ -46,5 +51,8 @@ searchedIn (SomeAbove file from to) = Nowhere
 searchedIn (Together file from to) = Nowhere
 searchedIn (LevelRun file level) = Nowhere
 searchedIn (ParentGiven file parent level id) = Nowhere
+searchedIn (AllGiven file from to) = Nowhere
+searchedIn (NoneGiven file from to) = Nowhere
+searchedIn (InOrder file first second) = Nowhere
 searchedIn (ParentIs file parent level id other otherID otherType value) = Nowhere
 searchedIn (EachHas file field when other id) = Nowhere

@@ -4,6 +4,7 @@ ghost use Rattle.rule_cells.specs.Cells.{table};
 ghost use Rattle.rule_shape.specs.Rule.{ruleFrom};
 ghost use Rattle.rule_reason.specs.Reason.{decidingField, searchedIn};
 use rule_hours::first_below;
+use rule_hours::first_given;
 use rule_hours::first_null;
 use rule_shape::Rule;
 use rule_shape::rule_at;
@@ -38,6 +39,9 @@ pub fn deciding_field(
         Rule::Together { from, to, .. } => first_null(cells, width, r, from, to),
         Rule::LevelRun { level, .. } => level,
         Rule::ParentGiven { parent, .. } => parent,
+        Rule::AllGiven { from, to, .. } => first_null(cells, width, r, from, to),
+        Rule::NoneGiven { from, to, .. } => first_given(cells, width, r, from, to),
+        Rule::InOrder { first, .. } => first,
         Rule::TargetIn { field, .. } => field,
         Rule::ParentIs { parent, .. } => parent,
         Rule::EachHas { field, .. } => field,

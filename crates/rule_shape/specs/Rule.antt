@@ -1,4 +1,4 @@
--- A rule of document 01, "Marks 20 to 80", by its shape: which files it reads, and the row of nine numbers that stands for it.
+-- A rule of document 01, "Marks 20 to 80", or of document 02 by its shape: which files it reads, and the row of nine numbers that stands for it.
 -- The variants of `Rule`, each with the document's words, are in the code.
 use Prim.Native.Nat.{ℕ, zero, suc, _/_}
 use mathlib.Core.Bool.{Bool, _||_}
@@ -9,7 +9,7 @@ use Rattle.table_rows.specs.Rows.{cellAt}
 use Rattle.rule_key.specs.declared.Key.{Key}
 use Rattle.rule_when.specs.declared.When.{When}
 use Rattle.rule_shape.specs.declared.Rule.{Rule}
-use Rattle.rule_shape.specs.declared.Rule.the-variants.{KeyOf, OneOf, NullUnless, GivenIf, GivenUnless, NoneBelow, SomeAbove, Together, LevelRun, ParentGiven, TargetIn, ParentIs, EachHas}
+use Rattle.rule_shape.specs.declared.Rule.the-variants.{KeyOf, OneOf, NullUnless, GivenIf, GivenUnless, NoneBelow, SomeAbove, Together, LevelRun, ParentGiven, AllGiven, NoneGiven, InOrder, TargetIn, ParentIs, EachHas}
 
 -- ---- What a rule reads. "place the first breaking record of the table named first": the file whose records it judges
 unfoldable pub firstOf : Rule → ℕ
@@ -23,6 +23,9 @@ firstOf (SomeAbove file from to) = file
 firstOf (Together file from to) = file
 firstOf (LevelRun file level) = file
 firstOf (ParentGiven file parent level id) = file
+firstOf (AllGiven file from to) = file
+firstOf (NoneGiven file from to) = file
+firstOf (InOrder file first second) = file
 firstOf (TargetIn file field when other id) = file
 firstOf (ParentIs file parent level id other otherID otherType value) = file
 firstOf (EachHas file field when other id) = file
@@ -39,6 +42,9 @@ secondOf (SomeAbove file from to) = file
 secondOf (Together file from to) = file
 secondOf (LevelRun file level) = file
 secondOf (ParentGiven file parent level id) = file
+secondOf (AllGiven file from to) = file
+secondOf (NoneGiven file from to) = file
+secondOf (InOrder file first second) = file
 secondOf (TargetIn file field when other id) = other
 secondOf (ParentIs file parent level id other otherID otherType value) = other
 secondOf (EachHas file field when other id) = other
@@ -63,12 +69,15 @@ rowOf (SomeAbove file from to) = 6 ∷ file ∷ file ∷ from ∷ to ∷ 0 ∷ 0
 rowOf (Together file from to) = 7 ∷ file ∷ file ∷ from ∷ to ∷ 0 ∷ 0 ∷ 0 ∷ 0 ∷ []
 rowOf (LevelRun file level) = 8 ∷ file ∷ file ∷ level ∷ 0 ∷ 0 ∷ 0 ∷ 0 ∷ 0 ∷ []
 rowOf (ParentGiven file parent level id) = 9 ∷ file ∷ file ∷ parent ∷ level ∷ id ∷ 0 ∷ 0 ∷ 0 ∷ []
+rowOf (AllGiven file from to) = 10 ∷ file ∷ file ∷ from ∷ to ∷ 0 ∷ 0 ∷ 0 ∷ 0 ∷ []
+rowOf (NoneGiven file from to) = 11 ∷ file ∷ file ∷ from ∷ to ∷ 0 ∷ 0 ∷ 0 ∷ 0 ∷ []
+rowOf (InOrder file first second) = 12 ∷ file ∷ file ∷ first ∷ second ∷ 0 ∷ 0 ∷ 0 ∷ 0 ∷ []
 rowOf (TargetIn file field when other id) =
-    10 ∷ file ∷ other ∷ field ∷ when .kind ∷ when .field ∷ when .first ∷ when .second ∷ id ∷ []
+    13 ∷ file ∷ other ∷ field ∷ when .kind ∷ when .field ∷ when .first ∷ when .second ∷ id ∷ []
 rowOf (ParentIs file parent level id other otherID otherType value) =
-    11 ∷ file ∷ other ∷ parent ∷ level ∷ id ∷ otherID ∷ otherType ∷ value ∷ []
+    14 ∷ file ∷ other ∷ parent ∷ level ∷ id ∷ otherID ∷ otherType ∷ value ∷ []
 rowOf (EachHas file field when other id) =
-    12 ∷ file ∷ other ∷ field ∷ when .kind ∷ when .field ∷ when .first ∷ when .second ∷ id ∷ []
+    15 ∷ file ∷ other ∷ field ∷ when .kind ∷ when .field ∷ when .first ∷ when .second ∷ id ∷ []
 
 -- ---- Read back
 abbrev pub key : ℕ → ℕ → ℕ → ℕ → ℕ → ℕ → Key
@@ -90,6 +99,9 @@ shapesOf file other field a b c d e =
     ∷ Together file field a
     ∷ LevelRun file field
     ∷ ParentGiven file field a b
+    ∷ AllGiven file field a
+    ∷ NoneGiven file field a
+    ∷ InOrder file field a
     ∷ TargetIn file field (condition a b c d) other e
     ∷ ParentIs file field a b other c d e
     ∷ []

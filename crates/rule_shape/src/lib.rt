@@ -1,5 +1,5 @@
-// A rule as a data type, a variant for each shape of document 01, "Marks 20 to 80", and the rows of
-// numbers that a list of rules is laid out in. A row is nine numbers: the shape, the file whose
+// A rule as a data type, a variant for each shape of document 01, "Marks 20 to 80", and of document
+// 02, and the rows of numbers that a list of rules is laid out in. A row is nine numbers: the shape, the file whose
 // records are judged, the file that is looked into, the deciding field, and five that the shape
 // reads.
 ghost use mathlib.Core.Path.{_≡_};
@@ -74,6 +74,24 @@ pub enum Rule {
         level: usize,
         id: usize,
     },
+    // Document 02, order 8. 81: "all five .. given", of the fields of a run.
+    AllGiven {
+        file: usize,
+        from: usize,
+        to: usize,
+    },
+    // 82, 84: none of the fields of a run is given; 0 is given.
+    NoneGiven {
+        file: usize,
+        from: usize,
+        to: usize,
+    },
+    // 83: the first Date "not after" the second "where both are given".
+    InOrder {
+        file: usize,
+        first: usize,
+        second: usize,
+    },
     // 48–64, "targets": where the record meets the condition, some record of the other file has the
     // field's value as its `id`; "Null holds."
     TargetIn {
@@ -138,7 +156,7 @@ pub fn first_file(rows: &[u32], i: usize) -> usize
 pub fn second_file(rows: &[u32], i: usize) -> usize
     ensures { λ r. ⌜ r ≡ secondOf (ruleFrom (now (rows .entry)) i) ⌝ }
 {
-    if row_cell(rows, i, 0) < 10 {
+    if row_cell(rows, i, 0) < 13 {
         return column(rows, i, 1);
     }
     column(rows, i, 2)
@@ -209,14 +227,29 @@ fn rule_of(
             level: a as usize,
             id: b as usize,
         },
-        10 => Rule::TargetIn {
+        10 => Rule::AllGiven {
+            file,
+            from: field,
+            to: a as usize,
+        },
+        11 => Rule::NoneGiven {
+            file,
+            from: field,
+            to: a as usize,
+        },
+        12 => Rule::InOrder {
+            file,
+            first: field,
+            second: a as usize,
+        },
+        13 => Rule::TargetIn {
             file,
             field,
             when,
             other,
             id: e as usize,
         },
-        11 => Rule::ParentIs {
+        14 => Rule::ParentIs {
             file,
             parent: field,
             level: a as usize,

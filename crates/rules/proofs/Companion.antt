@@ -20,7 +20,7 @@ use Rattle.rule_key.proofs.Laws.{Repeat, breaks-repeat}
 use Rattle.rule_outline.specs.Outline.{levelOne, levelOf, parentBy, parentOf, parentShown, outlineAt, parentRule, parentTypeRule}
 use Rattle.rule_outline.proofs.Parents.{IsParent, parent-is-nearest, nearest-is-parent}
 use Rattle.rule_shape.specs.declared.Rule.{Rule}
-use Rattle.rule_shape.specs.declared.Rule.the-variants.{KeyOf, OneOf, NullUnless, GivenIf, GivenUnless, NoneBelow, SomeAbove, Together, LevelRun, ParentGiven, TargetIn, ParentIs, EachHas}
+use Rattle.rule_shape.specs.declared.Rule.the-variants.{KeyOf, OneOf, NullUnless, GivenIf, GivenUnless, NoneBelow, SomeAbove, Together, LevelRun, ParentGiven, AllGiven, NoneGiven, InOrder, TargetIn, ParentIs, EachHas}
 use Rattle.rules.specs.declared.Break.{Break}
 use Rattle.rules.specs.Judge.{alone, ofOutline, parentBreak, ruleBreak, markOf}
 
@@ -119,6 +119,9 @@ namesCompanion (SomeAbove file from to) = false
 namesCompanion (Together file from to) = false
 namesCompanion (LevelRun file level) = false
 namesCompanion (ParentGiven file parent level id) = true
+namesCompanion (AllGiven file from to) = false
+namesCompanion (NoneGiven file from to) = false
+namesCompanion (InOrder file first second) = false
 namesCompanion (TargetIn file field when other id) = false
 namesCompanion (ParentIs file parent level id other otherID otherType value) = true
 namesCompanion (EachHas file field when other id) = false
@@ -168,6 +171,9 @@ module _ (judged : Bool) (places texts : List ℕ) (t u : Table) where
       alone-so (Together file from to) e = by-alone judged _
       alone-so (LevelRun file level) e = by-alone judged _
       alone-so (ParentGiven file parent level id) e = absurd (true≢false e)
+      alone-so (AllGiven file from to) e = by-alone judged _
+      alone-so (NoneGiven file from to) e = by-alone judged _
+      alone-so (InOrder file first second) e = by-alone judged _
       alone-so (TargetIn file field when other id) e = by-alone judged _
       alone-so (ParentIs file parent level id other otherID otherType value) e = absurd (true≢false e)
       alone-so (EachHas file field when other id) e = by-alone judged _

@@ -12,11 +12,12 @@ use Rattle.rule_key.specs.declared.KeyBreak.{KeyBreak}
 use Rattle.rule_value.specs.Value.{fieldRule}
 use Rattle.rule_value.specs.declared.FieldRule.{FieldRule}
 use Rattle.rule_target.specs.Target.{targetRule}
-use Rattle.rule_hours.specs.Hours.{noneBelow, someAbove, together}
+use Rattle.rule_dates.specs.Dates.{inOrder}
+use Rattle.rule_hours.specs.Hours.{noneBelow, someAbove, together, allGiven, noneGiven}
 use Rattle.rule_outline.specs.Outline.{levelRule, parentRule, parentTypeRule, parentOf}
 use Rattle.rule_outline.specs.declared.Outline.{Outline}
 use Rattle.rule_shape.specs.declared.Rule.{Rule}
-use Rattle.rule_shape.specs.declared.Rule.the-variants.{KeyOf, OneOf, NullUnless, GivenIf, GivenUnless, NoneBelow, SomeAbove, Together, LevelRun, ParentGiven, TargetIn, ParentIs, EachHas}
+use Rattle.rule_shape.specs.declared.Rule.the-variants.{KeyOf, OneOf, NullUnless, GivenIf, GivenUnless, NoneBelow, SomeAbove, Together, LevelRun, ParentGiven, AllGiven, NoneGiven, InOrder, TargetIn, ParentIs, EachHas}
 use Rattle.rules.specs.declared.Break.{Break}
 use Rattle.mark_numbers.specs.declared.Mark.{Mark}
 use Rattle.mark_numbers.specs.Marks.{holds, notJudged}
@@ -53,6 +54,10 @@ ruleBreak places texts (Together file from to) t u = alone (together (t .cells) 
 ruleBreak places texts (LevelRun file level) t u = alone (levelRule t level)
 -- 79: "the TaskID of its parent, the nearest earlier record of lower Level"
 ruleBreak places texts (ParentGiven file parent level id) t u = parentBreak t (parentRule t level id parent (parentOf t level))
+-- document 02, order 8, 81, 82, 84 and 83: the fields of a run, and two Dates
+ruleBreak places texts (AllGiven file from to) t u = alone (allGiven (t .cells) (t .width) (t .records) from to)
+ruleBreak places texts (NoneGiven file from to) t u = alone (noneGiven (t .cells) (t .width) (t .records) from to)
+ruleBreak places texts (InOrder file first second) t u = alone (inOrder t first second)
 -- 48–64: "Broken at a record exactly if no target record has that ID."; 67, 73 and 74 ask the same
 ruleBreak places texts (TargetIn file field when other id) t u = alone (targetRule t field when u id places texts)
 ruleBreak places texts (EachHas file field when other id) t u = alone (targetRule t field when u id places texts)

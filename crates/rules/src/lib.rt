@@ -1,15 +1,23 @@
 // A rule judged: the first record that breaks it, and the mark that this gives.
 ghost use mathlib.Core.Path.{_≡_};
 ghost use Rattle.rule_cells.specs.Cells.{table};
-ghost use Rattle.rule_outline.specs.Outline.{parentRule, parentTypeRule, parentOf};
+ghost use Rattle.rule_key.specs.Key.{keyRule};
+ghost use Rattle.rule_outline.specs.Outline.{parentRule, parentTypeRule, parentOf, heldIn};
 ghost use Rattle.rule_shape.specs.Rule.{ruleFrom};
 ghost use Rattle.rule_target.specs.Target.{targetRule};
 ghost use Rattle.rules.specs.Judge.{alone, ofKey, ofOutline, parentBreak, ruleBreak, isJudged, markOf};
 use mark_numbers::Mark;
+use ordered_key::key_rule_in;
+use ordered_outline::parent_type_rule_in;
+use ordered_target::target_rule_in;
 use parts::part;
+use rule_dates::in_order;
+use rule_hours::all_given;
 use rule_hours::none_below;
+use rule_hours::none_given;
 use rule_hours::some_above;
 use rule_hours::together;
+use rule_key::Key;
 use rule_key::KeyBreak;
 use rule_key::key_rule;
 use rule_outline::Outline;
@@ -49,6 +57,28 @@ fn of_key(found: KeyBreak) -> Break
     }
 }
 
+// The rule of marks 20–35, through an order of the records. No table has over 4,096.
+fn key_break(s: &[u8], cells: &[u32], width: usize, records: usize, key: Key) -> Break
+    ensures { λ r. ⌜ r ≡ ofKey (keyRule (table (now (s .entry)) (now (cells .entry)) width records) key) ⌝ }
+{
+    let mut sums = [0u32; 4096];
+    let mut order = [0u32; 4096];
+    let mut scratch = [0u32; 4096];
+    if 4096 < records {
+        return of_key(key_rule(s, cells, width, records, key));
+    }
+    of_key(key_rule_in(
+        s,
+        cells,
+        width,
+        records,
+        key,
+        &mut sums[..records],
+        &mut order[..records],
+        &mut scratch[..records],
+    ))
+}
+
 fn of_outline(found: Outline) -> Break
     ensures { λ r. ⌜ r ≡ ofOutline found ⌝ }
 {
@@ -77,6 +107,67 @@ fn parent_break(
     alone(0)
 }
 
+// Mark 80's rule over parents that were found, through an order of the tasks.
+fn typed_parents(
+    s: &[u8],
+    cells: &[u32],
+    width: usize,
+    records: usize,
+    level: usize,
+    id: usize,
+    parents: &[u32],
+    u: &[u8],
+    u_cells: &[u32],
+    u_width: usize,
+    u_records: usize,
+    u_id: usize,
+    u_type: usize,
+    word: &[u8],
+) -> Outline
+    ensures { λ r. ⌜ r ≡ parentTypeRule (table (now (s .entry)) (now (cells .entry)) width records) level id (heldIn (now (parents .entry))) (table (now (u .entry)) (now («u_cells» .entry)) «u_width» «u_records») «u_id» «u_type» (now (word .entry)) ⌝ }
+{
+    let mut sums = [0u32; 4096];
+    let mut order = [0u32; 4096];
+    let mut scratch = [0u32; 4096];
+    if 4096 < u_records {
+        return parent_type_rule(
+            s,
+            cells,
+            width,
+            records,
+            level,
+            id,
+            parents,
+            u,
+            u_cells,
+            u_width,
+            u_records,
+            u_id,
+            u_type,
+            word,
+        );
+    }
+    parent_type_rule_in(
+        s,
+        cells,
+        width,
+        records,
+        level,
+        id,
+        parents,
+        u,
+        u_cells,
+        u_width,
+        u_records,
+        u_id,
+        u_type,
+        word,
+        &mut sums[..u_records],
+        &mut order[..u_records],
+        &mut scratch[..u_records],
+    )
+}
+
 // Mark 80's rule, with the parents kept in the same way.
 fn parent_type_break(
     s: &[u8],
@@ -97,7 +188,7 @@ fn parent_type_break(
 {
     let mut parents = [0u32; 4096];
     if fill_parents(s, cells, width, records, level, &mut parents) {
-        return of_outline(parent_type_rule(
+        return of_outline(typed_parents(
             s,
             cells,
             width,
@@ -141,7 +232,25 @@ fn target_break(
         when,
         m: id,
     };
-    alone(target_rule(
+    let mut sums = [0u32; 4096];
+    let mut order = [0u32; 4096];
+    let mut scratch = [0u32; 4096];
+    if 4096 < u_records {
+        return alone(target_rule(
+            s,
+            cells,
+            width,
+            records,
+            asked,
+            u,
+            u_cells,
+            u_width,
+            u_records,
+            places,
+            texts,
+        ));
+    }
+    alone(target_rule_in(
         s,
         cells,
         width,
@@ -153,6 +262,9 @@ fn target_break(
         u_records,
         places,
         texts,
+        &mut sums[..u_records],
+        &mut order[..u_records],
+        &mut scratch[..u_records],
     ))
 }
 
@@ -175,7 +287,7 @@ pub fn rule_break(
 {
     let rule = rule_at(rows, i);
     match rule {
-        Rule::KeyOf { key, .. } => of_key(key_rule(s, cells, width, records, key)),
+        Rule::KeyOf { key, .. } => key_break(s, cells, width, records, key),
         Rule::OneOf {
             field,
             first,
@@ -210,6 +322,16 @@ pub fn rule_break(
             id,
             ..
         } => parent_break(s, cells, width, records, level, id, parent),
+        Rule::AllGiven { from, to, .. } => alone(all_given(cells, width, records, from, to)),
+        Rule::NoneGiven { from, to, .. } => alone(none_given(cells, width, records, from, to)),
+        Rule::InOrder { first, second, .. } => alone(in_order(
+            s,
+            cells,
+            width,
+            records,
+            first,
+            second,
+        )),
         Rule::TargetIn {
             field,
             when,

@@ -1,21 +1,22 @@
 -- The lent tables describe document 01's gate, and what that gate is in numbers.
 -- Assumes nothing.
-use Prim.Native.Nat.{ℕ, suc, _+_, _*_, _/_, _≤_, _<_}
+use Prim.Native.Nat.{ℕ, _*_, _/_, _≤_, _<_}
+use native.Mathlib.Nat.{mul-div-cancel}
 use mathlib.Core.Path.{_≡_, refl, sym, ap, _∙_, fun-ext}
 use mathlib.Core.Bool.{Bool, true, false}
-use mathlib.Core.List.{List, [], _∷_, map, flatten}
+use mathlib.Core.List.{List, [], map, flatten}
 use native.Mathlib.Omega.{arith}
 use borrow.Author.Tests.{ltb-true, ltb-false, leb-true}
 use lib.ListN.{length, getD, List·getD-eq-default}
 use lib.Dec.{ltb, leb, eqb}
 use Rattle.parts.specs.Files.{File}
 use Rattle.mark_numbers.specs.Marks.{Marks}
-use Rattle.table_rows.specs.Rows.{cellAt, fieldsIn}
+use Rattle.table_rows.specs.Rows.{cellAt}
 use Rattle.table_rows.proofs.Laws.{upFrom, each}
 use Rattle.table_fields.specs.Fields.{tables, fieldsOf, fileType}
 use Rattle.table_fields.specs.Flat.{fieldRows, fieldNames, valuePlaces, valueTexts}
 use Rattle.table_fields.proofs.Facts.{no-fields, fields-back}
-use Rattle.table_file.specs.File.{Form, Expected, formFrom, expectedFrom}
+use Rattle.table_file.specs.File.{Expected, formFrom, expectedFrom}
 use Rattle.table_file.proofs.FaultKinds.{countOf}
 use Rattle.rule_shape.specs.declared.Rule.{Rule}
 use Rattle.rule_shape.specs.Rule.{ruleFrom, rulesIn}
@@ -30,6 +31,7 @@ use Rattle.gate_marks.specs.Again.{workspaceOf, canJudge, marksAfter, workAfter
 use Rattle.reason_answer.specs.declared.Reason.{Reason}
 use Rattle.reason.specs.Reason.{reasonIn, workTold}
 use Rattle.schedule.specs.Schedule.{due, free, expectedFiles, schedule, formNumber, formRow, fileForms}
+use Rattle.schedule.specs.Lent.{gateBy}
 
 below-or-not : (P : ℕ → Type 0) (n : ℕ) → ((k : ℕ) → k < n → P k) → ((k : ℕ) → n ≤ k → P k) → (k : ℕ) → P k
 below-or-not P n below past k = go (ltb k n) refl
@@ -71,40 +73,49 @@ unfolding expectedIn filed
 file-is k =
     rw (fields-back k) (below-or-not (λ k. filed k ≡ getD expectedFiles k none) 20 (each filed (λ k. getD expectedFiles k none) 20 files-below) files-past k)
 
--- ---- the rules
-rows-long : length ruleRows ≡ 549
-unfolding open-rows flatten
-rows-long = refl
+-- ---- rules that rows of nine numbers decode to
+module _ (rules : List Rule) (rows : List ℕ) (n : ℕ) (rules-long : length rules ≡ n) (rows-long : length rows ≡ n * 9) (decode : rulesIn rows ≡ rules) where
+  rows-count : length rows / 9 ≡ n
+  rows-count = rw (rows-long, mul-div-cancel n {n = 9} (omega arith))
 
+  no-row : (i j : ℕ) → n ≤ i → cellAt rows 9 i j ≡ 0
+  unfolding cellAt
+  no-row i j l = List·getD-eq-default rows 0 (omega (arith, rows-long))
+
+  rules-past : (i : ℕ) → n ≤ i → ruleFrom rows i ≡ getD rules i (ruleFrom [] 0)
+  unfolding ruleFrom cellAt
+  rules-past i l =
+      rw (no-row i 0 l, no-row i 1 l, no-row i 2 l, no-row i 3 l, no-row i 4 l, no-row i 5 l, no-row i 6 l, no-row i 7 l, no-row i 8 l)
+      (sym (List·getD-eq-default rules (ruleFrom [] 0) (omega (arith, rules-long))))
+
+  rule-is : (i : ℕ) → ruleFrom rows i ≡ getD rules i (ruleFrom [] 0)
+  rule-is =
+      below-or-not (λ i. ruleFrom rows i ≡ getD rules i (ruleFrom [] 0)) n
+      (λ i l. sym (rule-at rows (ruleFrom [] 0) i (rw rows-count l)) ∙ ap (λ r. getD r i (ruleFrom [] 0)) decode)
+      rules-past
+
+  -- ---- the gate by those rules over document 01's files
+  pub gate-by : gateBy rows ≡ gateOf expectedFiles rules valuePlaces valueTexts
+  unfolding gateBy gateFrom gateOf
+  gate-by =
+      rw (forms-long, files-long, rows-count, rules-long)
+      (ap (λ (e : ℕ → Expected). made e (ruleFrom rows)) (fun-ext file-is) ∙ ap (λ (r : ℕ → Rule). made (λ k. getD expectedFiles k none) r) (fun-ext rule-is))
+    where
+      made : (ℕ → Expected) → (ℕ → Rule) → Gate
+      made e r = record { files = 20; expected = e; rules = n; rule = r; values = valuePlaces; texts = valueTexts }
+
+-- ---- document 01's gate
 rules-long : length rules ≡ 61
 unfolding open-rows
 rules-long = refl
 
-no-row : (i j : ℕ) → 61 ≤ i → cellAt ruleRows 9 i j ≡ 0
-unfolding cellAt
-no-row i j l = List·getD-eq-default ruleRows 0 (omega (arith, rows-long))
+rows-long : length ruleRows ≡ 61 * 9
+unfolding open-rows flatten
+rows-long = refl
 
-rules-past : (i : ℕ) → 61 ≤ i → ruleFrom ruleRows i ≡ getD rules i (ruleFrom [] 0)
-unfolding ruleFrom cellAt
-rules-past i l =
-    rw (no-row i 0 l, no-row i 1 l, no-row i 2 l, no-row i 3 l, no-row i 4 l, no-row i 5 l, no-row i 6 l, no-row i 7 l, no-row i 8 l)
-    (sym (List·getD-eq-default rules (ruleFrom [] 0) (omega (arith, rules-long))))
-
-rule-is : (i : ℕ) → ruleFrom ruleRows i ≡ getD rules i (ruleFrom [] 0)
-rule-is =
-    below-or-not (λ i. ruleFrom ruleRows i ≡ getD rules i (ruleFrom [] 0)) 61
-    (λ i l. sym (rule-at ruleRows (ruleFrom [] 0) i (rw rows-long (omega arith))) ∙ ap (λ r. getD r i (ruleFrom [] 0)) rows-decode)
-    rules-past
-
--- ---- the gate
-pub gate-is : gateFrom fileForms fieldRows fieldNames fileType ruleRows valuePlaces valueTexts ≡ schedule
-unfolding gateFrom schedule gateOf
-gate-is =
-    rw (forms-long, files-long, rows-long, rules-long)
-    (ap (λ (e : ℕ → Expected). made e (ruleFrom ruleRows)) (fun-ext file-is) ∙ ap (λ (r : ℕ → Rule). made (λ k. getD expectedFiles k none) r) (fun-ext rule-is))
-  where
-    made : (ℕ → Expected) → (ℕ → Rule) → Gate
-    made e r = record { files = 20; expected = e; rules = 61; rule = r; values = valuePlaces; texts = valueTexts }
+pub gate-is : gateBy ruleRows ≡ schedule
+unfolding schedule
+gate-is = gate-by rules ruleRows 61 rules-long rows-long rows-decode
 
 pub files-are : schedule .files ≡ 20
 unfolding schedule gateOf
@@ -128,20 +139,25 @@ unfolding schedule gateOf
 fields-few k l =
     leb-true (countOf (getD expectedFiles k none .form)) 64 (each (λ k. leb (countOf (getD expectedFiles k none .form)) 64) (λ k. true) 20 few-below k (rw files-long at l))
 
--- ---- as the code has it: tables that are the constant ones describe this gate
-module _ {forms fields names fixed rows values texts : List ℕ} (f : forms ≡ fileForms) (d : fields ≡ fieldRows) (n : names ≡ fieldNames)
-    (x : fixed ≡ fileType) (r : rows ≡ ruleRows) (v : values ≡ valuePlaces) (t : texts ≡ valueTexts) where
-  described : gateFrom forms fields names fixed rows values texts ≡ schedule
-  described = rw (f, d, n, x, r, v, t) gate-is
+-- ---- as the code has it: what is judged and told by a gate, is by one that is the same
+module _ {g h : Gate} (same : g ≡ h) where
+  pub judged-as : (scope : Scope) (files : ℕ → File) (lent : ℕ) (handed : Marks) (work : List ℕ) {could : Bool} {marks : Marks} {last : List ℕ}
+      → (could ≡ canJudge g lent handed) × ((marks ≡ marksAfter g scope files lent handed) × (last ≡ workAfterwards g scope files handed work))
+      → (could ≡ canJudge h lent handed) × ((marks ≡ marksAfter h scope files lent handed) × (last ≡ workAfterwards h scope files handed work))
+  judged-as scope files lent handed work (a, (b, c)) =
+      (a ∙ ap (λ g. canJudge g lent handed) same, (b ∙ ap (λ g. marksAfter g scope files lent handed) same, c ∙ ap (λ g. workAfterwards g scope files handed work) same))
 
-  pub judged-so : (scope : Scope) (files : ℕ → File) (lent : ℕ) (handed : Marks) (work : List ℕ) {could : Bool} {marks : Marks} {last : List ℕ}
-      → (could ≡ canJudge (gateFrom forms fields names fixed rows values texts) lent handed) × ((marks ≡ marksAfter (gateFrom forms fields names fixed rows values texts) scope files lent handed) × (last ≡ workAfterwards (gateFrom forms fields names fixed rows values texts) scope files handed work))
-      → (could ≡ canJudge schedule lent handed) × ((marks ≡ marksAfter schedule scope files lent handed) × (last ≡ workAfterwards schedule scope files handed work))
-  judged-so scope files lent handed work (a, (b, c)) =
-      (a ∙ ap (λ g. canJudge g lent handed) described, (b ∙ ap (λ g. marksAfter g scope files lent handed) described, c ∙ ap (λ g. workAfterwards g scope files handed work) described))
+  pub told-as : (offset : ℕ → ℕ) (files : ℕ → File) (lent m : ℕ) (work : List ℕ) {told : Reason} {last : List ℕ}
+      → (told ≡ reasonIn g offset files lent m) × (last ≡ workTold g files m work)
+      → (told ≡ reasonIn h offset files lent m) × (last ≡ workTold h files m work)
+  told-as offset files lent m work (a, b) =
+      (a ∙ ap (λ g. reasonIn g offset files lent m) same, b ∙ ap (λ g. workTold g files m work) same)
 
-  pub told-so : (offset : ℕ → ℕ) (files : ℕ → File) (lent m : ℕ) (work : List ℕ) {told : Reason} {last : List ℕ}
-      → (told ≡ reasonIn (gateFrom forms fields names fixed rows values texts) offset files lent m) × (last ≡ workTold (gateFrom forms fields names fixed rows values texts) files m work)
-      → (told ≡ reasonIn schedule offset files lent m) × (last ≡ workTold schedule files m work)
-  told-so offset files lent m work (a, b) =
-      (a ∙ ap (λ g. reasonIn g offset files lent m) described, b ∙ ap (λ g. workTold g files m work) described)
+-- tables that are the constant ones describe the gate by the rules that are lent
+pub described : {forms fields names fixed values texts : List ℕ} (rows : List ℕ) → forms ≡ fileForms → fields ≡ fieldRows → names ≡ fieldNames → fixed ≡ fileType → values ≡ valuePlaces → texts ≡ valueTexts → gateFrom forms fields names fixed rows values texts ≡ gateBy rows
+unfolding gateBy
+described rows f d n x v t = rw (f, d, n, x, v, t)
+
+-- and by rules that are document 01's, document 01's
+pub by-schedule : {rows : List ℕ} → rows ≡ ruleRows → gateBy rows ≡ schedule
+by-schedule r = ap gateBy r ∙ gate-is

@@ -11,7 +11,7 @@ use Rattle.table_fields.specs.Flat.{firstValue}
 use Rattle.table_rows.proofs.Laws.{all}
 use Rattle.rule_when.specs.declared.When.{When}
 use Rattle.rule_shape.specs.declared.Rule.{Rule}
-use Rattle.rule_shape.specs.declared.Rule.the-variants.{KeyOf, OneOf, NullUnless, GivenIf, GivenUnless, NoneBelow, SomeAbove, Together, LevelRun, ParentGiven, TargetIn, ParentIs, EachHas}
+use Rattle.rule_shape.specs.declared.Rule.the-variants.{KeyOf, OneOf, NullUnless, GivenIf, GivenUnless, NoneBelow, SomeAbove, Together, LevelRun, ParentGiven, AllGiven, NoneGiven, InOrder, TargetIn, ParentIs, EachHas}
 use Rattle.rule_shape.specs.Rule.{firstOf, secondOf, rulesIn}
 use Rattle.rule_shape.proofs.Laws.{rows-back}
 use Rattle.schedule_rules.specs.Rules.{rules, ruleRows}
@@ -62,6 +62,9 @@ isNamed (SomeAbove file from to) = isRun file from to
 isNamed (Together file from to) = isRun file from to
 isNamed (LevelRun file level) = areFields file (level ∷ [])
 isNamed (ParentGiven file parent level id) = areFields file (parent ∷ level ∷ id ∷ [])
+isNamed (AllGiven file from to) = isRun file from to
+isNamed (NoneGiven file from to) = isRun file from to
+isNamed (InOrder file first second) = areFields file (first ∷ second ∷ [])
 isNamed (TargetIn file field when other id) = areFields file (field ∷ []) && (isCondition file when && areFields other (id ∷ []))
 isNamed (ParentIs file parent level id other otherID otherType value) =
     areFields file (parent ∷ level ∷ id ∷ []) && (areFields other (otherID ∷ otherType ∷ []) && areValues (value ∷ []))

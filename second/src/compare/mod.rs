@@ -1,6 +1,6 @@
 //! Comparing another program with this one, case by case: on the JSON layer
-//! (`case`, `answer`, `cases`), on the reading of one file (`tables`) and on
-//! the whole gate (`gate`).
+//! (`case`, `answer`, `cases`), on the reading of one file (`tables`), on the
+//! whole gate (`gate`) and on the text that tells the reasons (`sentences`).
 
 #[cfg(not(serve_only))]
 pub mod answer;
@@ -23,6 +23,8 @@ mod padded;
 pub mod random;
 #[clippy::msrv = "1.63"]
 pub mod run;
+#[cfg(not(serve_only))]
+pub mod sentences;
 pub mod tables;
 #[cfg(not(serve_only))]
 mod white_space;

@@ -1,12 +1,12 @@
 //! Order 6: the reason beside a mark.
 
-use crate::sample::{accepted, array, schedule, Set};
+use crate::sample::{accepted, schedule, Set};
 use second::board::{Mark, HOLDS};
 use second::bundle::file_part;
 use second::compare::gate::readings::{printed, readings};
 use second::fields::{fields_of, FILE_NAMES};
 use second::gate::judge;
-use second::print::{reasons, report};
+use second::print::reasons;
 use second::reason::{reason, Reason, Shown};
 use second::rules::files_read;
 
@@ -40,7 +40,7 @@ fn the_readings_have_their_answers() {
         assert_eq!(told(&reading.bundle, reading.mark), reading.answer, "{}", reading.name);
     }
     for printed in printed() {
-        let text = reasons(&printed.bundle);
+        let text = reasons(&printed.bundle, false);
         if printed.whole {
             assert_eq!(text, printed.lines.join("\n") + "\n", "{}", printed.name);
         }
@@ -350,43 +350,6 @@ fn refusals_come_in_their_order() {
         let expected = if mark > 80 { "refused 7" } else { "holds" };
         assert_eq!(told(&sample, mark), expected);
     }
-}
-
-// ------------------------------------------------------------- the print
-
-#[test]
-fn all_but_the_reasons_is_the_judging_programs_print() {
-    for set in broken_sets() {
-        let bundle = set.bundle();
-        let (plain, told) = (report(&bundle), reasons(&bundle));
-        assert_eq!(plain.lines().count(), told.lines().count());
-        for (plain, told) in plain.lines().zip(told.lines()) {
-            let rest = told.strip_prefix(plain).unwrap();
-            let number: Option<usize> = plain.split(' ').next().unwrap().parse().ok();
-            let has_reason = number.is_some_and(|number| number >= 20);
-            assert_eq!(rest.starts_with(' '), has_reason, "{told}");
-            assert!(has_reason || rest.is_empty(), "{told}");
-        }
-    }
-    assert_eq!(reasons(&[0; 65_537]), "bundle 1\n");
-    assert_eq!(reasons(&accepted().bundle()), "marks 81\naccepted\n");
-}
-
-#[test]
-fn values_are_printed_as_they_stand() {
-    let metadata = r#"{"SecurityMarking":"U","ReportingPeriodEndDate":"2020-01-31","ContractorIDCode":"é\"\u0041"}"#;
-    let text = reasons(&accepted().with(1, metadata).bundle());
-    let line = r#"65 1 1 0 DatasetMetadata record 1 ContractorIDCode "é\"\u0041""#;
-    assert_eq!(text, format!("marks 81\n{line}\nrefused 1\n"));
-    let rows = array(&[
-        r#"{"Level":1,"TaskID":"S1"}"#.into(),
-        r#"{"Level":2,"TaskID":"T1","ParentTaskID":"x"}"#.into(),
-    ]);
-    let text = reasons(&Set::empty().with(15, &rows).bundle());
-    assert!(text.contains("\n79 1 2 1 TaskOutlineStructure record 2 ParentTaskID \"x\"\n"));
-    assert!(
-        text.contains("\n60 1 2 0 TaskOutlineStructure record 2 ParentTaskID \"x\" not in Tasks\n")
-    );
 }
 
 #[test]

@@ -1,6 +1,7 @@
 -- `board::report_board` meets its contract: a board has 81 marks, whose text fits 6,144 bytes.
+use native.Mathlib.Omega.{arith}
 use Rattle.board.specs.Board.{marksOn}
-use Rattle.board.proofs.Laws.{board-written}
+use Rattle.board.proofs.Laws.{marks-written}
 use borrow.Author.Needs.{needs}
 use denote.Ref.{now}
 use Rattle.board.proofs.report_board.Statement.{statement}
@@ -24,7 +25,7 @@ same-length c = search needs
 returns : tie.Need-returns
 returns c =
     let a = c .before .before .before .before .before .before .before .before .before .before .before .args in
-    board-written (a .refusal) (marksOn (a .board)) (now (a .out)) (record { kinds-long = search needs; places-long = search needs; companions-long = search needs }) (c .before .before .report .ensures)
+    marks-written 81 (omega arith) (a .refusal) (marksOn (a .board)) (now (a .out)) (record { kinds-long = search needs; places-long = search needs; companions-long = search needs }) (c .before .before .report .ensures)
 
 pub report-board-spec : {M : Type 1} → statement M
 report-board-spec =

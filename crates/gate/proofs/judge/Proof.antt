@@ -4,7 +4,7 @@ use mathlib.Core.Path.{sym}
 use borrow.Author.Needs.{needs}
 use denote.Ref.{now}
 use lib.ListN.{length-replicate}
-use Rattle.gate.proofs.Laws.{own-judge}
+use Rattle.gate.proofs.Laws.{own-room, own-judge}
 use Rattle.gate.proofs.judge.Statement.{statement}
 use Rattle.gate.proofs.judge.Tie as tie
 
@@ -15,7 +15,7 @@ judge-in-requires : tie.Need-judge-in-requires
 judge-in-requires c κs = search needs
 
 returns : tie.Need-returns
-returns c = own-judge (length-replicate {A = ℕ} 794702 0) (now (c .before .before .before .before .args .bundle)) (c .before .judge-in .ensures .0)
+returns c = own-judge (own-room (length-replicate {A = ℕ} 794702 0)) (now (c .before .before .before .before .args .bundle)) (c .before .judge-in .ensures .0)
 
 pub judge-spec : {M : Type 1} → statement M
 judge-spec = tie.close (tie.spec slice-aggregate-judge-in judge-in-requires returns)

@@ -7,7 +7,7 @@ use lib.ListN.{length, length-replicate}
 use Rattle.parts.specs.Files.{newFile}
 use Rattle.mark_numbers.proofs.Laws.{Long}
 use Rattle.board.specs.Board.{marksOn}
-use Rattle.gate.proofs.Laws.{own-make, own-output}
+use Rattle.gate.proofs.Laws.{own-room, own-make, own-output}
 use Rattle.gate.proofs.make_change.Statement.{statement}
 use Rattle.gate.proofs.make_change.Tie as tie
 
@@ -29,7 +29,7 @@ returns c =
     let start = c .before .before .before .before .before .before .before .before .before in
     let a = start .args in
     let done = c .before .before .before .make-in .ensures in
-    let enough = length-replicate {A = ℕ} 794702 0 in
+    let enough = own-room (length-replicate {A = ℕ} 794702 0) in
     let f = newFile (a .present) (now (a .new)) in
     (own-make enough (now (a .bundle)) (a .k) f (marksOn (a .board)) (board-long start) (length (now (a .out))) (done .0), own-output enough (now (a .bundle)) (a .k) f (marksOn (a .board)) (board-long start) (now (a .out)) (done .1 .0))
 

@@ -5,7 +5,7 @@ use mathlib.Core.Path.{sym}
 use lib.ListN.{length-replicate}
 use borrow.Author.Needs.{needs}
 use denote.Ref.{now}
-use Rattle.gate.proofs.Laws.{own-reason}
+use Rattle.gate.proofs.Laws.{own-room, own-reason}
 use Rattle.gate.proofs.reason.Statement.{statement}
 use Rattle.gate.proofs.reason.Tie as tie
 
@@ -16,7 +16,7 @@ reason-in-requires : tie.Need-reason-in-requires
 reason-in-requires c κs = search needs
 
 returns : tie.Need-returns
-returns c = own-reason (length-replicate {A = ℕ} 794702 0) (now (c .before .before .before .before .args .bundle)) (c .before .before .before .before .args .mark) (c .before .reason-in .ensures .0)
+returns c = own-reason (own-room (length-replicate {A = ℕ} 794702 0)) (now (c .before .before .before .before .args .bundle)) (c .before .before .before .before .args .mark) (c .before .reason-in .ensures .0)
 
 pub reason-spec : {M : Type 1} → statement M
 reason-spec = tie.close (tie.spec slice-aggregate-reason-in reason-in-requires returns)

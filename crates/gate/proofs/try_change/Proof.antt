@@ -7,7 +7,7 @@ use lib.ListN.{length-replicate}
 use Rattle.parts.specs.Files.{newFile}
 use Rattle.mark_numbers.proofs.Laws.{Long}
 use Rattle.board.specs.Board.{marksOn}
-use Rattle.gate.proofs.Laws.{own-try}
+use Rattle.gate.proofs.Laws.{own-room, own-try}
 use Rattle.gate.proofs.try_change.Statement.{statement}
 use Rattle.gate.proofs.try_change.Tie as tie
 
@@ -25,7 +25,7 @@ returns : tie.Need-returns
 returns c =
     let start = c .before .before .before .before .before in
     let a = start .args in
-    own-try (length-replicate {A = ℕ} 794702 0) (now (a .bundle)) (a .k) (newFile (a .present) (now (a .new))) (marksOn (a .board)) (board-long start) (c .before .try-in .ensures .0)
+    own-try (own-room (length-replicate {A = ℕ} 794702 0)) (now (a .bundle)) (a .k) (newFile (a .present) (now (a .new))) (marksOn (a .board)) (board-long start) (c .before .try-in .ensures .0)
 
 pub try-change-spec : {M : Type 1} → statement M
 try-change-spec = tie.close (tie.spec slice-aggregate-try-in try-in-requires returns)

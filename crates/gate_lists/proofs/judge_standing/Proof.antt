@@ -4,12 +4,22 @@ use denote.Ref.{now}
 use lib.ListN.{length}
 use Rattle.standing.specs.Standing.{standing}
 use Rattle.mark_numbers.specs.Marks.{marksIn}
-use Rattle.gate_lists.proofs.Answers.{judged-called}
+use Rattle.schedule.proofs.Laws.{judged-as}
+use Rattle.gate_lists.proofs.Answers.{is-schedule, is-baseline}
 use Rattle.gate_lists.proofs.judge_standing.Statement.{statement}
 use Rattle.gate_lists.proofs.judge_standing.Tie as tie
 
+enum-told : tie.Need-enum-told
+enum-told c = search needs
+
 schedule-marks-requires : tie.Need-schedule-marks-requires
 schedule-marks-requires c κs = search needs
+
+enum-told-2 : tie.Need-enum-told-2
+enum-told-2 c = search needs
+
+baseline-marks-requires : tie.Need-baseline-marks-requires
+baseline-marks-requires c κs = search needs
 
 same-length : tie.Need-same-length
 same-length c = search needs
@@ -25,16 +35,41 @@ same-length-4 c = search needs
 
 returns : tie.Need-returns
 returns c =
-    let a = c .before .before .before .before .before .before .before .before .before .before .before .before .before .before .before .before .before .before .before .before .before .args in
-    judged-called (a .which) (a .scope) (standing (now (a .a)) (now (a .b)) (now (a .c)) (now (a .stand))) (length (now (a .work))) (marksIn (now (a .kinds)) (now (a .places)) (now (a .companions))) (now (a .work)) (c .before .before .before .before .before .before .before .before .schedule-marks .ensures)
+    let a = c .before .before .before .before .before .before .before .before .before .before .before .before .before .before .before .before .before .before .before .before .before .before .before .args in
+    judged-as (is-schedule (c .before .before .before .before .before .before .before .before .before .before .before .before .before .enum-told .given .1)) (a .scope) (standing (now (a .a)) (now (a .b)) (now (a .c)) (now (a .stand))) (length (now (a .work))) (marksIn (now (a .kinds)) (now (a .places)) (now (a .companions))) (now (a .work)) (c .before .before .before .before .before .before .before .before .schedule-marks .ensures)
+
+same-length-5 : tie.Need-same-length-5
+same-length-5 c = search needs
+
+same-length-6 : tie.Need-same-length-6
+same-length-6 c = search needs
+
+same-length-7 : tie.Need-same-length-7
+same-length-7 c = search needs
+
+same-length-8 : tie.Need-same-length-8
+same-length-8 c = search needs
+
+returns-2 : tie.Need-returns-2
+returns-2 c =
+    let a = c .before .before .before .before .before .before .before .before .before .before .before .before .before .before .before .before .before .before .before .before .before .before .before .args in
+    judged-as (is-baseline (c .before .before .before .before .before .before .before .before .before .before .before .before .before .enum-told2 .given .1)) (a .scope) (standing (now (a .a)) (now (a .b)) (now (a .c)) (now (a .stand))) (length (now (a .work))) (marksIn (now (a .kinds)) (now (a .places)) (now (a .companions))) (now (a .work)) (c .before .before .before .before .before .before .before .before .baseline-marks .ensures)
 
 pub judge-standing-spec : {M : Type 1} → statement M
 judge-standing-spec =
     tie.close
     (tie.spec
+    enum-told
     schedule-marks-requires
+    enum-told-2
+    baseline-marks-requires
     same-length
     same-length-2
     same-length-3
     same-length-4
-    returns)
+    returns
+    same-length-5
+    same-length-6
+    same-length-7
+    same-length-8
+    returns-2)

@@ -3,12 +3,14 @@
 use Prim.Native.Nat.{_-_}
 use mathlib.Core.Path.{refl}
 use native.Mathlib.Omega.{arith}
+use borrow.Author.Tests.{lt-ltb, le-ltb}
+use Rattle.number_search.specs.Search.{below}
 use Rattle.number_search.proofs.Laws.{Searching, starts, ends, goes-on, goes-back}
 use Rattle.number_search.proofs.front_below.Statement.{statement}
 use Rattle.number_search.proofs.front_below.Tie as tie
 
 abbrev Inv-loop : tie.InvT-loop
-Inv-loop numbers x lo₀ hi₀ lo hi = Searching x numbers lo hi
+Inv-loop numbers x lo₀ hi₀ lo hi = Searching (below x) numbers lo hi
 
 abbrev μ-loop : tie.MeasureT-loop
 μ-loop numbers x lo₀ hi₀ lo hi = hi - lo
@@ -35,13 +37,13 @@ loop-less : tie.Need-loop-less Inv-loop μ-loop
 loop-less c = omega arith
 
 loop-again : tie.Need-loop-again Inv-loop μ-loop
-loop-again c = goes-on _ _ _ _ (c .before .before .before .loop .inv) (c .before .before .loop-test .taken) _ refl (c .if1 .taken)
+loop-again c = goes-on _ _ _ _ (c .before .before .before .loop .inv) (c .before .before .loop-test .taken) _ refl (lt-ltb _ _ (c .if1 .taken))
 
 loop-less-2 : tie.Need-loop-less-2 Inv-loop μ-loop
 loop-less-2 c = omega arith
 
 loop-again-2 : tie.Need-loop-again-2 Inv-loop μ-loop
-loop-again-2 c = goes-back _ _ _ _ (c .before .before .before .loop .inv) (c .before .before .loop-test .taken) _ refl (c .if1 .left)
+loop-again-2 c = goes-back _ _ _ _ (c .before .before .before .loop .inv) (c .before .before .loop-test .taken) _ refl (le-ltb _ _ (c .if1 .left))
 
 returns : tie.Need-returns Inv-loop μ-loop
 returns c = ends _ _ _ _ (c .before .loop .inv) (c .loop-test .left)

@@ -7,7 +7,7 @@ use lib.ListN.{length}
 use borrow.Author.Needs.{needs}
 use Rattle.mark_numbers.specs.Marks.{marksIn}
 use Rattle.report.specs.Report.{linesUpTo}
-use Rattle.report.specs.Output.{outputAt, put}
+use Rattle.output.specs.Output.{outputAt, put}
 use Rattle.report.proofs.Puts.{lines-start, lines-next, lines-end}
 use Rattle.report.proofs.put_lines.Statement.{statement}
 use Rattle.report.proofs.put_lines.Tie as tie

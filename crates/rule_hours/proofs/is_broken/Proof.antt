@@ -28,6 +28,18 @@ any-field-requires-3 c κs = search needs
 any-field-requires-4 : tie.Need-any-field-requires-4
 any-field-requires-4 c κs = search needs
 
+enum-told-4 : tie.Need-enum-told-4
+enum-told-4 c = search needs
+
+any-field-requires-5 : tie.Need-any-field-requires-5
+any-field-requires-5 c κs = search needs
+
+enum-told-5 : tie.Need-enum-told-5
+enum-told-5 c = search needs
+
+any-field-requires-6 : tie.Need-any-field-requires-6
+any-field-requires-6 c κs = search needs
+
 returns : tie.Need-returns
 unfolding passes breaks
 returns c = rw (c .before .before .before .enum-told3 .given .1, sym (c .before .before .any-field3 .ensures) ∙ c .before .if1 .taken) (c .any-field4 .ensures)
@@ -44,6 +56,14 @@ returns-4 : tie.Need-returns-4
 unfolding passes breaks
 returns-4 c = rw (c .before .before .enum-told3 .given .1, sym (c .before .any-field3 .ensures) ∙ c .if1 .left)
 
+returns-5 : tie.Need-returns-5
+unfolding passes breaks
+returns-5 c = rw (c .before .enum-told4 .given .1) (c .any-field5 .ensures)
+
+returns-6 : tie.Need-returns-6
+unfolding passes breaks
+returns-6 c = rw (c .before .enum-told5 .given .1) (c .any-field6 .ensures)
+
 pub is-broken-spec : {M : Type 1} → statement M
 is-broken-spec =
     tie.close
@@ -56,6 +76,12 @@ is-broken-spec =
     any-field-requires-3
     any-field-requires-4
     returns
+    enum-told-4
+    any-field-requires-5
+    enum-told-5
+    any-field-requires-6
     returns-2
     returns-3
-    returns-4)
+    returns-4
+    returns-5
+    returns-6)

@@ -46,11 +46,26 @@ enum-known-rule-10 c = search needs
 enum-known-rule-11 : tie.Need-enum-known-rule-11
 enum-known-rule-11 c = search needs
 
+first-null-requires-2 : tie.Need-first-null-requires-2
+first-null-requires-2 c κs = search needs
+
 enum-known-rule-12 : tie.Need-enum-known-rule-12
 enum-known-rule-12 c = search needs
 
+first-given-requires : tie.Need-first-given-requires
+first-given-requires c κs = search needs
+
 enum-known-rule-13 : tie.Need-enum-known-rule-13
 enum-known-rule-13 c = search needs
+
+enum-known-rule-14 : tie.Need-enum-known-rule-14
+enum-known-rule-14 c = search needs
+
+enum-known-rule-15 : tie.Need-enum-known-rule-15
+enum-known-rule-15 c = search needs
+
+enum-known-rule-16 : tie.Need-enum-known-rule-16
+enum-known-rule-16 c = search needs
 
 returns : tie.Need-returns
 unfolding decidingField
@@ -94,15 +109,27 @@ returns-10 c = rw (← (c .before .before .before .rule-at .ensures), c .before 
 
 returns-11 : tie.Need-returns-11
 unfolding decidingField
-returns-11 c = rw (← (c .before .before .before .rule-at .ensures), c .before .rule11 .given .1)
+returns-11 c = rw (← (c .before .before .before .before .rule-at .ensures), c .before .before .rule11 .given .1) (c .first-null2 .ensures)
 
 returns-12 : tie.Need-returns-12
 unfolding decidingField
-returns-12 c = rw (← (c .before .before .before .rule-at .ensures), c .before .rule12 .given .1)
+returns-12 c = rw (← (c .before .before .before .before .rule-at .ensures), c .before .before .rule12 .given .1) (c .first-given .ensures)
 
 returns-13 : tie.Need-returns-13
 unfolding decidingField
 returns-13 c = rw (← (c .before .before .before .rule-at .ensures), c .before .rule13 .given .1)
+
+returns-14 : tie.Need-returns-14
+unfolding decidingField
+returns-14 c = rw (← (c .before .before .before .rule-at .ensures), c .before .rule14 .given .1)
+
+returns-15 : tie.Need-returns-15
+unfolding decidingField
+returns-15 c = rw (← (c .before .before .before .rule-at .ensures), c .before .rule15 .given .1)
+
+returns-16 : tie.Need-returns-16
+unfolding decidingField
+returns-16 c = rw (← (c .before .before .before .rule-at .ensures), c .before .rule16 .given .1)
 
 pub deciding-field-spec : {M : Type 1} → statement M
 deciding-field-spec =
@@ -122,8 +149,13 @@ deciding-field-spec =
     enum-known-rule-9
     enum-known-rule-10
     enum-known-rule-11
+    first-null-requires-2
     enum-known-rule-12
+    first-given-requires
     enum-known-rule-13
+    enum-known-rule-14
+    enum-known-rule-15
+    enum-known-rule-16
     returns
     returns-2
     returns-3
@@ -136,4 +168,7 @@ deciding-field-spec =
     returns-10
     returns-11
     returns-12
-    returns-13)
+    returns-13
+    returns-14
+    returns-15
+    returns-16)

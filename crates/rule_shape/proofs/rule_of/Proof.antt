@@ -68,7 +68,19 @@ unfolding ruleOf shapesOf
 returns-12 c = rw (c .match .keys12)
 
 returns-13 : tie.Need-returns-13
-returns-13 c = sym (last-shape _ _ _ _ _ _ _ _ _ (passed _ 12 (c .match .rest)))
+unfolding ruleOf shapesOf
+returns-13 c = rw (c .match .keys13)
+
+returns-14 : tie.Need-returns-14
+unfolding ruleOf shapesOf
+returns-14 c = rw (c .match .keys14)
+
+returns-15 : tie.Need-returns-15
+unfolding ruleOf shapesOf
+returns-15 c = rw (c .match .keys15)
+
+returns-16 : tie.Need-returns-16
+returns-16 c = sym (last-shape _ _ _ _ _ _ _ _ _ (passed _ 15 (c .match .rest)))
 
 pub rule-of-spec : {M : Type 1} → statement M
 rule-of-spec =
@@ -86,4 +98,7 @@ rule-of-spec =
     returns-10
     returns-11
     returns-12
-    returns-13)
+    returns-13
+    returns-14
+    returns-15
+    returns-16)

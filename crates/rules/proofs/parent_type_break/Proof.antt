@@ -13,17 +13,17 @@ slice-aggregate-fill-parents c = sym (length-replicate {A = ℕ} 4096 0)
 fill-parents-requires : tie.Need-fill-parents-requires
 fill-parents-requires c κs = search needs
 
-slice-aggregate-parent-type-rule : tie.Need-slice-aggregate-parent-type-rule
-slice-aggregate-parent-type-rule c = search needs
+slice-aggregate-typed-parents : tie.Need-slice-aggregate-typed-parents
+slice-aggregate-typed-parents c = search needs
 
-parent-type-rule-requires : tie.Need-parent-type-rule-requires
-parent-type-rule-requires c κs = search needs
+typed-parents-requires : tie.Need-typed-parents-requires
+typed-parents-requires c κs = search needs
 
 of-outline-requires : tie.Need-of-outline-requires
 of-outline-requires c κs = search needs
 
 returns : tie.Need-returns
-returns c = c .of-outline .ensures ∙ parent-type-judged _ _ _ _ _ _ (sym (c .before .before .before .before .before .fill-parents .ensures .0) ∙ c .before .before .before .if1 .taken) (c .before .before .before .before .before .fill-parents .ensures .1) _ _ _ _ (c .before .parent-type-rule .ensures)
+returns c = c .of-outline .ensures ∙ parent-type-judged _ _ _ _ _ _ (sym (c .before .before .before .before .before .fill-parents .ensures .0) ∙ c .before .before .before .if1 .taken) (c .before .before .before .before .before .fill-parents .ensures .1) _ _ _ _ (c .before .typed-parents .ensures)
 
 alone-requires : tie.Need-alone-requires
 alone-requires c κs = search needs
@@ -37,8 +37,8 @@ parent-type-break-spec =
     (tie.spec
     slice-aggregate-fill-parents
     fill-parents-requires
-    slice-aggregate-parent-type-rule
-    parent-type-rule-requires
+    slice-aggregate-typed-parents
+    typed-parents-requires
     of-outline-requires
     returns
     alone-requires

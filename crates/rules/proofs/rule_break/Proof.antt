@@ -2,7 +2,7 @@
 use mathlib.Core.Path.{ap, sym, _∙_}
 use borrow.Author.Needs.{needs}
 use Rattle.table_rows.specs.Rows.{valueTextAt}
-use Rattle.rules.specs.Judge.{alone, ofKey, ruleBreak}
+use Rattle.rules.specs.Judge.{alone, ruleBreak}
 use Rattle.rules.proofs.rule_break.Statement.{statement}
 use Rattle.rules.proofs.rule_break.Tie as tie
 
@@ -12,11 +12,8 @@ rule-at-requires c κs = search needs
 enum-known-rule : tie.Need-enum-known-rule
 enum-known-rule c = search needs
 
-key-rule-requires : tie.Need-key-rule-requires
-key-rule-requires c κs = search needs
-
-of-key-requires : tie.Need-of-key-requires
-of-key-requires c κs = search needs
+key-break-requires : tie.Need-key-break-requires
+key-break-requires c κs = search needs
 
 enum-known-rule-2 : tie.Need-enum-known-rule-2
 enum-known-rule-2 c = search needs
@@ -99,11 +96,38 @@ parent-break-requires c κs = search needs
 enum-known-rule-11 : tie.Need-enum-known-rule-11
 enum-known-rule-11 c = search needs
 
-target-break-requires : tie.Need-target-break-requires
-target-break-requires c κs = search needs
+all-given-requires : tie.Need-all-given-requires
+all-given-requires c κs = search needs
+
+alone-requires-9 : tie.Need-alone-requires-9
+alone-requires-9 c κs = search needs
 
 enum-known-rule-12 : tie.Need-enum-known-rule-12
 enum-known-rule-12 c = search needs
+
+none-given-requires : tie.Need-none-given-requires
+none-given-requires c κs = search needs
+
+alone-requires-10 : tie.Need-alone-requires-10
+alone-requires-10 c κs = search needs
+
+enum-known-rule-13 : tie.Need-enum-known-rule-13
+enum-known-rule-13 c = search needs
+
+in-order-requires : tie.Need-in-order-requires
+in-order-requires c κs = search needs
+
+alone-requires-11 : tie.Need-alone-requires-11
+alone-requires-11 c κs = search needs
+
+enum-known-rule-14 : tie.Need-enum-known-rule-14
+enum-known-rule-14 c = search needs
+
+target-break-requires : tie.Need-target-break-requires
+target-break-requires c κs = search needs
+
+enum-known-rule-15 : tie.Need-enum-known-rule-15
+enum-known-rule-15 c = search needs
 
 value-start-requires : tie.Need-value-start-requires
 value-start-requires c κs = search needs
@@ -117,15 +141,15 @@ part-requires c κs = search needs
 parent-type-break-requires : tie.Need-parent-type-break-requires
 parent-type-break-requires c κs = search needs
 
-enum-known-rule-13 : tie.Need-enum-known-rule-13
-enum-known-rule-13 c = search needs
+enum-known-rule-16 : tie.Need-enum-known-rule-16
+enum-known-rule-16 c = search needs
 
 target-break-requires-2 : tie.Need-target-break-requires-2
 target-break-requires-2 c κs = search needs
 
 returns : tie.Need-returns
 unfolding ruleBreak
-returns c = rw (← (c .before .before .before .before .before .rule-at .ensures), c .before .before .before .rule .given .1) (c .of-key .ensures ∙ ap ofKey (c .before .key-rule .ensures))
+returns c = rw (← (c .before .before .before .before .rule-at .ensures), c .before .before .rule .given .1) (c .key-break .ensures)
 
 returns-2 : tie.Need-returns-2
 unfolding ruleBreak
@@ -165,15 +189,27 @@ returns-10 c = rw (← (c .before .before .before .before .rule-at .ensures), c 
 
 returns-11 : tie.Need-returns-11
 unfolding ruleBreak
-returns-11 c = rw (← (c .before .before .before .before .rule-at .ensures), c .before .before .rule11 .given .1) (c .target-break .ensures)
+returns-11 c = rw (← (c .before .before .before .before .before .rule-at .ensures), c .before .before .before .rule11 .given .1) (c .alone9 .ensures ∙ ap alone (c .before .all-given .ensures))
 
 returns-12 : tie.Need-returns-12
-unfolding ruleBreak valueTextAt
-returns-12 c = rw (← (c .before .before .before .before .before .before .before .rule-at .ensures), c .before .before .before .before .before .rule12 .given .1, ← (c .before .before .before .value-start .ensures), ← (c .before .before .value-end .ensures), ← (c .before .part .ensures)) (c .parent-type-break .ensures)
+unfolding ruleBreak
+returns-12 c = rw (← (c .before .before .before .before .before .rule-at .ensures), c .before .before .before .rule12 .given .1) (c .alone10 .ensures ∙ ap alone (c .before .none-given .ensures))
 
 returns-13 : tie.Need-returns-13
 unfolding ruleBreak
-returns-13 c = rw (← (c .before .before .before .before .rule-at .ensures), c .before .before .rule13 .given .1) (c .target-break2 .ensures)
+returns-13 c = rw (← (c .before .before .before .before .before .rule-at .ensures), c .before .before .before .rule13 .given .1) (c .alone11 .ensures ∙ ap alone (c .before .in-order .ensures))
+
+returns-14 : tie.Need-returns-14
+unfolding ruleBreak
+returns-14 c = rw (← (c .before .before .before .before .rule-at .ensures), c .before .before .rule14 .given .1) (c .target-break .ensures)
+
+returns-15 : tie.Need-returns-15
+unfolding ruleBreak valueTextAt
+returns-15 c = rw (← (c .before .before .before .before .before .before .before .rule-at .ensures), c .before .before .before .before .before .rule15 .given .1, ← (c .before .before .before .value-start .ensures), ← (c .before .before .value-end .ensures), ← (c .before .part .ensures)) (c .parent-type-break .ensures)
+
+returns-16 : tie.Need-returns-16
+unfolding ruleBreak
+returns-16 c = rw (← (c .before .before .before .before .rule-at .ensures), c .before .before .rule16 .given .1) (c .target-break2 .ensures)
 
 pub rule-break-spec : {M : Type 1} → statement M
 rule-break-spec =
@@ -181,8 +217,7 @@ rule-break-spec =
     (tie.spec
     rule-at-requires
     enum-known-rule
-    key-rule-requires
-    of-key-requires
+    key-break-requires
     enum-known-rule-2
     field-rule-requires
     alone-requires
@@ -210,13 +245,22 @@ rule-break-spec =
     enum-known-rule-10
     parent-break-requires
     enum-known-rule-11
-    target-break-requires
+    all-given-requires
+    alone-requires-9
     enum-known-rule-12
+    none-given-requires
+    alone-requires-10
+    enum-known-rule-13
+    in-order-requires
+    alone-requires-11
+    enum-known-rule-14
+    target-break-requires
+    enum-known-rule-15
     value-start-requires
     value-end-requires
     part-requires
     parent-type-break-requires
-    enum-known-rule-13
+    enum-known-rule-16
     target-break-requires-2
     returns
     returns-2
@@ -230,4 +274,7 @@ rule-break-spec =
     returns-10
     returns-11
     returns-12
-    returns-13)
+    returns-13
+    returns-14
+    returns-15
+    returns-16)

@@ -14,8 +14,8 @@ pub mod reason_sights;
 #[cfg(not(serve_only))]
 pub mod sample;
 #[cfg(not(serve_only))]
-mod set_draft;
+pub(super) mod set_draft;
 #[clippy::msrv = "1.63"]
 pub mod sights;
 #[cfg(not(serve_only))]
-mod styles;
+pub(super) mod styles;

@@ -71,7 +71,8 @@ pub fn readings() -> Vec<Reading> {
     ]
 }
 
-/// What is printed of a bundle, or of one of its marks.
+/// What is printed of a bundle, or of one of its marks. Order 6 leaves the print
+/// open; of each line the readings ask for what the sentence has in it.
 pub struct Printed {
     pub name: &'static str,
     pub bundle: Vec<u8>,
@@ -84,14 +85,20 @@ pub fn printed() -> Vec<Printed> {
     let line = |name, set: Set, lines| Printed { name, bundle: set.bundle(), lines, whole: false };
     vec![
         line("6.14", only(7, TWO_SHIFTS),
-            &[r#"23 1 2 1 CalendarWorkshifts record 2 CalendarID "\u0043" repeats record 1"#]),
+            &[r#"23 1 2 1 CalendarWorkshifts record 2: CalendarID "\u0043" stands with the same Ordinal in record 1 already; without one it counts as 0. Give each workshift of a calendar an Ordinal of its own."#]),
         line("6.14b", only(7, TWO_SHIFTS),
-            &[r#"49 1 1 0 CalendarWorkshifts record 1 CalendarID "c" not in Calendars"#]),
-        line("6.14c", only(13, UNDATED), &["77 1 1 0 TaskConstraints record 1 ConstraintDate"]),
+            &[r#"49 1 1 0 CalendarWorkshifts record 1: CalendarID "c" is not the ID of any record in Calendars. Add that calendar, or name one that is there."#]),
+        line("6.14c", only(13, UNDATED),
+            &["77 1 1 0 TaskConstraints record 1: ConstraintDate is not given. Give the date; only the types AS_LATE_AS_POSSIBLE and OTHER may go without one."]),
         Printed { name: "6.14d", bundle: Set::empty().bundle(), whole: true, lines: &[
-            "marks 81", "0 21 0 0", "1 21 0 0", "3 21 0 0",
-            "36 2 0 0 unreadable DatasetMetadata", "37 2 0 0 unreadable ProjectScheduleData",
-            "65 2 0 0 unreadable DatasetMetadata", "66 2 0 0 unreadable DatasetMetadata",
+            "marks 81",
+            "0 21 0 0 FileType.txt is missing. Add it; a set must have it.",
+            "1 21 0 0 DatasetMetadata.json is missing. Add it; a set must have it.",
+            "3 21 0 0 ProjectScheduleData.json is missing. Add it; a set must have it.",
+            "36 2 0 0 Not judged, since DatasetMetadata.json does not hold. Mend that file first.",
+            "37 2 0 0 Not judged, since ProjectScheduleData.json does not hold. Mend that file first.",
+            "65 2 0 0 Not judged, since DatasetMetadata.json does not hold. Mend that file first.",
+            "66 2 0 0 Not judged, since DatasetMetadata.json does not hold. Mend that file first.",
             "refused 7",
         ] },
     ]

@@ -364,7 +364,7 @@ fn members(bytes: &[u8], record: usize) -> Vec<Member> {
 }
 
 /// Where the token ends that begins here: a string, one sign, or a run of others.
-fn token_end(bytes: &[u8], at: usize) -> usize {
+pub(in crate::compare) fn token_end(bytes: &[u8], at: usize) -> usize {
     let is_sign = |byte: &u8| b" \t\n\r{}[]:,".contains(byte);
     let rest = &bytes[at + 1..];
     let more = match bytes[at] {

@@ -12,7 +12,7 @@ use crate::table::{read_file, Record};
 /// A file in the making. Its records are shared with the sets it comes from,
 /// of which most differ in one file only.
 #[derive(Clone)]
-pub(super) enum FileDraft {
+pub(in crate::compare) enum FileDraft {
     Omitted,
     Bytes(Vec<u8>),
     Records(Arc<Vec<Draft>>),
@@ -25,7 +25,7 @@ impl FileDraft {
 }
 
 #[derive(Clone)]
-pub(super) struct SetDraft {
+pub(in crate::compare) struct SetDraft {
     pub files: Vec<FileDraft>,
 }
 
@@ -138,7 +138,7 @@ fn draft_of(table: usize, record: &Record, contents: &[u8]) -> Draft {
 }
 
 /// The first, a middle and the last of so many records, or fewer.
-pub(super) fn places(count: usize) -> Vec<usize> {
+pub(in crate::compare) fn places(count: usize) -> Vec<usize> {
     places_from(0, count)
 }
 

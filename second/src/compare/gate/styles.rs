@@ -9,7 +9,7 @@ use crate::fields::{fields_of, Type};
 use crate::json::decoded_codes;
 
 /// The set with each table written in another way, by which no mark changes.
-pub(super) fn restyled(set: &SetDraft, random: &mut Random) -> SetDraft {
+pub(in crate::compare) fn restyled(set: &SetDraft, random: &mut Random) -> SetDraft {
     let mut styled = set.clone();
     for (table, file) in styled.files.iter_mut().enumerate() {
         if let FileDraft::Records(records) = file {

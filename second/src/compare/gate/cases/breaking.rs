@@ -41,7 +41,7 @@ fn add_as_changes(cases: &mut Cases, base: &SetDraft, set: &SetDraft) {
 
 /// Sets in which the rule is broken at the first, a middle and the last record,
 /// and some that are nearly so.
-pub(super) fn broken_sets(mark: usize, base: &SetDraft) -> Vec<SetDraft> {
+pub(in crate::compare) fn broken_sets(mark: usize, base: &SetDraft) -> Vec<SetDraft> {
     match rule(mark) {
         Rule::Key { file, fields } => repeated_keys(base, file, fields),
         Rule::OneOf { file, field, .. } => with_value_at_places(base, file, field, b"\"NONE\""),

@@ -35,7 +35,7 @@ pub(super) fn add(cases: &mut Cases) {
 }
 
 /// A record with all that can't be null. Its IDs are those of the number.
-pub(super) fn short_record(table: usize, number: usize) -> Draft {
+pub(in crate::compare) fn short_record(table: usize, number: usize) -> Draft {
     let mut draft = Draft::default();
     for field in fields_of(table).filter(|field| !field.nullable) {
         draft.push(&quoted(field.name), &short_value(field.kind, number));

@@ -49,7 +49,7 @@ fn some_sets() -> Vec<Set> {
     sets
 }
 
-pub(super) fn refused_bundles(sample: &[u8]) -> Vec<Vec<u8>> {
+pub(in crate::compare) fn refused_bundles(sample: &[u8]) -> Vec<Vec<u8>> {
     let mut count_wrong = sample.to_vec();
     count_wrong[3] = 1;
     let mut offset_wrong = sample.to_vec();

@@ -30,6 +30,12 @@ use super::set_draft::SetDraft;
 use crate::board::{Board, Mark};
 use crate::compare::random::Random;
 
+pub(in crate::compare) use breaking::broken_sets;
+pub(in crate::compare) use long::short_record;
+pub(in crate::compare) use lookups::refused_bundles;
+pub(in crate::compare) use mutated::random_set;
+pub(in crate::compare) use reasons::{behind_others, Front};
+
 /// The same seed always gives the same cases in the same order.
 pub fn all_cases(seed: u64) -> Vec<GateCase> {
     let base = SetDraft::accepted();

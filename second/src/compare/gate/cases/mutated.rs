@@ -23,7 +23,12 @@ pub(super) fn add(cases: &mut Cases) {
     }
 }
 
-fn random_set(base: &SetDraft, round: usize, random: &mut Random) -> SetDraft {
+/// Of one of four sorts, by the round.
+pub(in crate::compare) fn random_set(
+    base: &SetDraft,
+    round: usize,
+    random: &mut Random,
+) -> SetDraft {
     let mut set = match round % 4 {
         0 => mutated(base, 1 + random.below(3), random),
         1 => mutated(base, 4 + random.below(12), random),

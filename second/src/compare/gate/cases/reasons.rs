@@ -20,6 +20,7 @@ use crate::compare::gate::reason_sights::asked_marks;
 use crate::compare::gate::sample::Set;
 use crate::compare::gate::set_draft::{places, FileDraft, SetDraft};
 use crate::compare::gate::styles::{restyled, shuffle};
+use crate::compare::random::Random;
 use crate::fields::{fields_of, Type};
 use crate::gate::judge;
 use crate::json::decoded_codes;
@@ -86,7 +87,7 @@ fn add_broken(cases: &mut Cases, mark: usize, set: &SetDraft) {
         ask_of_set(cases, &styled, mark);
     }
     for front in FRONTS {
-        let behind = behind_others(cases, set, mark, front);
+        let behind = behind_others(set, mark, front, &mut cases.random);
         ask_of_set(cases, &behind, mark);
         let styled = restyled(&behind, &mut cases.random);
         ask_of_set(cases, &styled, mark);
@@ -103,7 +104,7 @@ fn add_broken(cases: &mut Cases, mark: usize, set: &SetDraft) {
 
 /// What the files are that the rule doesn't read.
 #[derive(Clone, Copy)]
-enum Front {
+pub(in crate::compare) enum Front {
     Omitted,
     Empty,
     Bytes,
@@ -112,19 +113,25 @@ enum Front {
 
 const FRONTS: [Front; 4] = [Front::Omitted, Front::Empty, Front::Bytes, Front::Mixed];
 
-fn behind_others(cases: &mut Cases, set: &SetDraft, mark: usize, front: Front) -> SetDraft {
+/// The files of the set that the rule reads, behind and between such others.
+pub(in crate::compare) fn behind_others(
+    set: &SetDraft,
+    mark: usize,
+    front: Front,
+    random: &mut Random,
+) -> SetDraft {
     let read = files_read(mark);
     let mut behind = set.only(&read);
     for number in (0..FILES).filter(|number| !read.contains(number)) {
         let front = match front {
-            Front::Mixed => cases.random.pick(&FRONTS[..3]),
+            Front::Mixed => random.pick(&FRONTS[..3]),
             other => other,
         };
         behind.files[number] = match front {
             Front::Empty => FileDraft::Bytes(Vec::new()),
             Front::Bytes => {
-                let length = 1 + cases.random.below(40);
-                let byte = |_| cases.random.next_number() as u8;
+                let length = 1 + random.below(40);
+                let byte = |_| random.next_number() as u8;
                 FileDraft::Bytes((0..length).map(byte).collect())
             }
             _ => FileDraft::Omitted,

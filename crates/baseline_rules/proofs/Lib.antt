@@ -1,0 +1,4 @@
+pub mod Opens
+pub mod Facts
+pub mod Lists
+pub mod Cases

@@ -1,0 +1,97 @@
+// The rule "primary key" judged through an order of the records: equal keys stand beside each other in
+// it, so that each record is compared with one other.
+ghost use mathlib.Core.Path.{_≡_};
+ghost use Prim.Native.Nat.{_+_, _<_};
+ghost use Rattle.rule_cells.specs.Cells.{table};
+ghost use Rattle.rule_key.specs.Key.{sameKey, keyRule};
+ghost use Rattle.ordered_key.specs.Repeat.{lesser, repeatOf, leastRepeat, breakAt};
+use key_order::key_order;
+use rule_key::Key;
+use rule_key::KeyBreak;
+use rule_key::earliest_same;
+use rule_key::key_rule;
+use rule_key::same_key;
+
+// The lesser of two records, both counted from 1; 0 stands for none.
+fn lesser(a: usize, b: usize) -> usize
+    ensures { λ r. ⌜ r ≡ lesser a b ⌝ }
+{
+    if a == 0 {
+        return b;
+    }
+    if b == 0 {
+        return a;
+    }
+    if a < b {
+        return a;
+    }
+    b
+}
+
+// Record r, counted from 1, if it has the key of record p; 0 if not.
+fn repeat_of(s: &[u8], cells: &[u32], width: usize, key: Key, p: u32, r: u32) -> usize
+    ensures { λ x. ⌜ x ≡ repeatOf (sameKey (table (now (s .entry)) (now (cells .entry)) width 0) key) p r ⌝ }
+{
+    let record = r as usize;
+    if same_key(s, cells, width, key, p as usize, record) {
+        return record + 1;
+    }
+    0
+}
+
+// Of the records in a list, the least that has the key of the one just before it, counted from 1; 0
+// for none.
+fn first_repeat(s: &[u8], cells: &[u32], width: usize, key: Key, order: &[u32]) -> usize
+    ensures { λ x. ⌜ x ≡ leastRepeat (sameKey (table (now (s .entry)) (now (cells .entry)) width 0) key) (now (order .entry)) ⌝ }
+{
+    let mut least = 0;
+    let mut i = 0;
+    while i + 1 < order.len() {
+        let found = repeat_of(s, cells, width, key, order[i], order[i + 1]);
+        least = lesser(least, found);
+        i += 1;
+    }
+    least
+}
+
+// What the rule answers, read from an order of the records: only for the record that breaks it is the
+// earliest with its key searched.
+fn order_break(s: &[u8], cells: &[u32], width: usize, key: Key, order: &[u32]) -> KeyBreak
+    ensures { λ x. ⌜ x ≡ breakAt (table (now (s .entry)) (now (cells .entry)) width 0) key (leastRepeat (sameKey (table (now (s .entry)) (now (cells .entry)) width 0) key) (now (order .entry))) ⌝ }
+{
+    let first = first_repeat(s, cells, width, key, order);
+    if first == 0 {
+        return KeyBreak { record: 0, same: 0 };
+    }
+    KeyBreak {
+        record: first,
+        same: earliest_same(s, cells, width, key, first - 1),
+    }
+}
+
+// The first record whose key equals an earlier one's, through an order of the records in the lent
+// lists. Where they are not as long as there are records, or the key's first field is no ID, every
+// record is compared with every other.
+pub fn key_rule_in(
+    s: &[u8],
+    cells: &[u32],
+    width: usize,
+    records: usize,
+    key: Key,
+    sums: &mut [u32],
+    order: &mut [u32],
+    scratch: &mut [u32],
+) -> KeyBreak
+    ensures { λ r. ⌜ r ≡ keyRule (table (now (s .entry)) (now (cells .entry)) width records) key ⌝ }
+{
+    if key.a_kind != 1 {
+        return key_rule(s, cells, width, records, key);
+    }
+    if order.len() != records {
+        return key_rule(s, cells, width, records, key);
+    }
+    if key_order(s, cells, width, key, sums, order, scratch) {
+        return order_break(s, cells, width, key, order);
+    }
+    key_rule(s, cells, width, records, key)
+}

@@ -1,0 +1,49 @@
+-- The sentence beside a mark, from what is told of it: document 02, order 6.
+use Prim.Native.Nat.{ℕ}
+use mathlib.Core.List.{List}
+use Rattle.parts.specs.Files.{bytesOf}
+use Rattle.text_place.specs.declared.Spot.{Spot}
+use Rattle.text_place.specs.Place.{spotAt}
+use Rattle.bundle_layout.specs.Bundle.{fileAt}
+use Rattle.reason_answer.specs.declared.Shown.{Shown}
+use Rattle.reason_answer.specs.declared.Reason.{Reason}
+use Rattle.reason_answer.specs.declared.Reason.the-variants.{Refused, Holds, NotJudged, OwnMark, Broken, Missing}
+use Rattle.gate_calls.specs.Reasons.{valueShown}
+use Rattle.wording.specs.declared.Slots.{Slots}
+use Rattle.wording.specs.Sentences.{sentenceAt, ofRule, ofKind, notJudged, nothing}
+use Rattle.wording.specs.Wording.{filled}
+
+-- which sentence it is, of mark m; none for one that holds
+unfoldable pub sentenceNumber : ℕ → Reason → ℕ
+sentenceNumber m (Refused refusal) = nothing
+sentenceNumber m Holds = nothing
+sentenceNumber m (NotJudged file) = notJudged
+sentenceNumber m (OwnMark kind place companion) = ofKind kind
+sentenceNumber m (Broken shown) = ofRule m
+sentenceNumber m (Missing shown searched) = ofRule m
+
+-- ---- What stands in its slots; 0 where a sentence has no such slot
+-- a file and a count
+abbrev pub fileSlots : ℕ → ℕ → Slots
+fileSlots file n =
+    record { file = file; «record» = n; companion = 0; field = 0; searched = 0; line = 0; column = 0 }
+
+-- of a file's own mark its companion is the record in which the fault stands
+abbrev pub ownSlots : ℕ → ℕ → Spot → Slots
+ownSlots file companion spot =
+    record { file = file; «record» = companion; companion = 0; field = 0; searched = 0; line = spot .line; column = spot .column }
+
+abbrev pub shownSlots : Shown → ℕ → Slots
+shownSlots shown searched =
+    record { file = shown .file; «record» = shown .«record»; companion = shown .companion; field = shown .field; searched = searched; line = 0; column = 0 }
+
+unfoldable pub slotsOf : List ℕ → ℕ → Reason → Slots
+slotsOf s m (Refused refusal) = fileSlots 0 0
+slotsOf s m Holds = fileSlots 0 0
+slotsOf s m (NotJudged file) = fileSlots file 0
+slotsOf s m (OwnMark kind place companion) = ownSlots m companion (spotAt (bytesOf (fileAt s m)) place)
+slotsOf s m (Broken shown) = shownSlots shown 0
+slotsOf s m (Missing shown searched) = shownSlots shown searched
+
+unfoldable pub sentenceOf : List ℕ → ℕ → Reason → List ℕ
+sentenceOf s m told = filled (slotsOf s m told) (valueShown s told) (sentenceAt (sentenceNumber m told))

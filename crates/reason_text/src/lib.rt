@@ -1,0 +1,380 @@
+// The text of a bundle's marks with the reason beside each that doesn't hold.
+ghost use mathlib.Core.Path.{_≡_};
+ghost use mathlib.Core.Bool.{true, cond};
+ghost use mathlib.Core.List.{[]};
+ghost use Prim.Native.Nat.{_≤_};
+ghost use lib.ListN.{length, take};
+ghost use lib.Dec.{eqb};
+ghost use Rattle.output.specs.Output.{outputAt, put};
+ghost use Rattle.text_place.specs.Place.{spotAt, count};
+ghost use Rattle.parts.specs.Files.{bytesOf};
+ghost use Rattle.bundle_layout.specs.Bundle.{fileAt};
+ghost use Rattle.mark_numbers.specs.Marks.{marksIn, listOf};
+ghost use Rattle.gate_calls.specs.Reasons.{reasonOf};
+ghost use Rattle.schedule.specs.Schedule.{schedule};
+ghost use Rattle.reason_text.specs.Sentence.{fileSlots, ownSlots, shownSlots, sentenceNumber, slotsOf, sentenceOf};
+ghost use Rattle.reason_text.specs.Text.{isSilent, lineWith, reasonLine, reasonLines, keeperOf, keeperAt, keptLine, keptLines, keepersOf, marksText, reasonsIn, frontPut};
+use bundle::part_at;
+use gate::judge_in;
+use gate::reason_in;
+use gate::value_shown;
+use mark_numbers::Mark;
+use mark_numbers::kind_at;
+use mark_numbers::mark_in;
+use output::put_byte;
+use reason_answer::Reason;
+use reason_answer::Shown;
+use report::put_counted;
+use report::put_last;
+use report::put_numbers;
+use text_place::line_and_column;
+use wording::Slots;
+use wording::kind_sentence;
+use wording::put_sentence;
+use wording::rule_sentence;
+
+// How many files a set has: the number that stands for no file.
+const FILES: usize = 20;
+
+const MARKS: usize = 81;
+
+// How many numbers a workspace takes.
+const WORKSPACE: usize = 794702;
+
+// The numbers of the sentences that no mark or kind gives.
+const NOT_JUDGED: usize = 79;
+
+const KEEPS_MANY: usize = 80;
+
+const KEEPS_ONE: usize = 81;
+
+const NOTHING: usize = 82;
+
+// ---- The sentence beside a mark
+
+fn sentence_number(m: usize, told: Reason) -> usize
+    ensures { λ r. ⌜ r ≡ sentenceNumber m told ⌝ }
+{
+    match told {
+        Reason::Refused { .. } => NOTHING,
+        Reason::Holds => NOTHING,
+        Reason::NotJudged { .. } => NOT_JUDGED,
+        Reason::OwnMark { kind, .. } => kind_sentence(kind),
+        Reason::Broken { .. } => rule_sentence(m),
+        Reason::Missing { .. } => rule_sentence(m),
+    }
+}
+
+fn file_slots(file: usize, n: usize) -> Slots
+    ensures { λ r. ⌜ r ≡ fileSlots file n ⌝ }
+{
+    Slots {
+        file,
+        record: n,
+        companion: 0,
+        field: 0,
+        searched: 0,
+        line: 0,
+        column: 0,
+    }
+}
+
+// Of a file's own mark.
+fn own_slots(bundle: &[u8], file: usize, place: usize, companion: usize) -> Slots
+    ensures { λ r. ⌜ r ≡ ownSlots file companion (spotAt (bytesOf (fileAt (now (bundle .entry)) file)) place) ⌝ }
+{
+    let spot = line_and_column(part_at(bundle, file), place);
+    Slots {
+        file,
+        record: companion,
+        companion: 0,
+        field: 0,
+        searched: 0,
+        line: spot.line,
+        column: spot.column,
+    }
+}
+
+// Of a rule that is broken.
+fn shown_slots(shown: Shown, searched: usize) -> Slots
+    ensures { λ r. ⌜ r ≡ shownSlots shown searched ⌝ }
+{
+    Slots {
+        file: shown.file,
+        record: shown.record,
+        companion: shown.companion,
+        field: shown.field,
+        searched,
+        line: 0,
+        column: 0,
+    }
+}
+
+fn slots_of(bundle: &[u8], m: usize, told: Reason) -> Slots
+    ensures { λ r. ⌜ r ≡ slotsOf (now (bundle .entry)) m told ⌝ }
+{
+    match told {
+        Reason::Refused { .. } => file_slots(0, 0),
+        Reason::Holds => file_slots(0, 0),
+        Reason::NotJudged { file } => file_slots(file, 0),
+        Reason::OwnMark {
+            place,
+            companion,
+            ..
+        } => own_slots(bundle, m, place, companion),
+        Reason::Broken { shown } => shown_slots(shown, 0),
+        Reason::Missing { shown, searched } => shown_slots(shown, searched),
+    }
+}
+
+// Puts the sentence, as all functions below put what they make.
+fn put_told(out: &mut [u8], at: usize, bundle: &[u8], m: usize, told: Reason) -> usize
+    ensures { λ r. ⌜ outputAt (now (out .exit)) r ≡ put (outputAt (now (out .entry)) at) (sentenceOf (now (bundle .entry)) m told) ⌝ }
+{
+    let slots = slots_of(bundle, m, told);
+    let value = value_shown(bundle, told);
+    let n = sentence_number(m, told);
+    put_sentence(out, at, n, slots, value)
+}
+
+// ---- The lines of the marks
+
+fn is_silent(grouped: bool, kind: u32) -> bool
+    ensures { λ r. ⌜ r ≡ isSilent grouped kind ⌝ }
+{
+    if kind == 0 {
+        return true;
+    }
+    if grouped {
+        return kind == 2;
+    }
+    false
+}
+
+fn put_line(out: &mut [u8], at: usize, bundle: &[u8], m: usize, mark: Mark, told: Reason) -> usize
+    ensures { λ r. ⌜ outputAt (now (out .exit)) r ≡ put (outputAt (now (out .entry)) at) (lineWith (now (bundle .entry)) m mark told) ⌝ }
+{
+    let space = put_numbers(out, at, m, mark);
+    let sentence = put_byte(out, space, b' ');
+    let feed = put_told(out, sentence, bundle, m, told);
+    put_byte(out, feed, b'\n')
+}
+
+// What is told of a mark, in a workspace that is long enough.
+fn reason_of(bundle: &[u8], m: usize, work: &mut [u32]) -> Reason
+    requires { ⌜ 794702 ≤ length (now work) ⌝ }
+    ensures { λ r. ⌜ r ≡ reasonOf schedule (now (bundle .entry)) m ⌝ }
+{
+    reason_in(bundle, m, work)
+}
+
+fn put_mark(
+    out: &mut [u8],
+    at: usize,
+    bundle: &[u8],
+    grouped: bool,
+    m: usize,
+    mark: Mark,
+    work: &mut [u32],
+) -> usize
+    requires { ⌜ 794702 ≤ length (now work) ⌝ }
+    ensures { λ r. ⌜ outputAt (now (out .exit)) r ≡ put (outputAt (now (out .entry)) at) (reasonLine schedule grouped (now (bundle .entry)) m mark) ⌝ }
+{
+    if is_silent(grouped, mark.kind) {
+        return at;
+    }
+    let told = reason_of(bundle, m, work);
+    put_line(out, at, bundle, m, mark, told)
+}
+
+fn put_lines(
+    out: &mut [u8],
+    at: usize,
+    bundle: &[u8],
+    grouped: bool,
+    kinds: &[u32],
+    places: &[usize],
+    companions: &[usize],
+    work: &mut [u32],
+) -> usize
+    requires { ⌜ 794702 ≤ length (now work) ⌝ }
+    ensures { λ r. ⌜ outputAt (now (out .exit)) r ≡ put (outputAt (now (out .entry)) at) (reasonLines schedule grouped (now (bundle .entry)) (marksIn (now (kinds .entry)) (now (places .entry)) (now (companions .entry))) (length (now (kinds .entry)))) ⌝ }
+{
+    let mut end = at;
+    let mut m = 0;
+    while m < kinds.len() {
+        let mark = mark_in(kinds, places, companions, m);
+        end = put_mark(out, end, bundle, grouped, m, mark, work);
+        m += 1;
+    }
+    end
+}
+
+// ---- The files that keep marks from being judged
+
+fn keeper_of(told: Reason) -> usize
+    ensures { λ r. ⌜ r ≡ keeperOf 20 told ⌝ }
+{
+    match told {
+        Reason::NotJudged { file } => file,
+        _ => FILES,
+    }
+}
+
+// The file that keeps a mark of a kind from being judged; 20 for none.
+fn keeper_at(bundle: &[u8], m: usize, kind: u32, work: &mut [u32]) -> usize
+    requires { ⌜ 794702 ≤ length (now work) ⌝ }
+    ensures { λ r. ⌜ r ≡ cond (eqb kind 2) (keeperOf 20 (reasonOf schedule (now (bundle .entry)) m)) 20 ⌝ }
+{
+    if kind == 2 {
+        return keeper_of(reason_of(bundle, m, work));
+    }
+    FILES
+}
+
+fn find_keepers(
+    bundle: &[u8],
+    kinds: &[u32],
+    places: &[usize],
+    companions: &[usize],
+    work: &mut [u32],
+    keepers: &mut [usize],
+)
+    requires { ⌜ 794702 ≤ length (now work) ⌝ }
+    ensures { λ _. ⌜ now (keepers .exit) ≡ listOf (keeperAt schedule (now (bundle .entry)) (marksIn (now (kinds .entry)) (now (places .entry)) (now (companions .entry)))) (length (now (keepers .entry))) ⌝ }
+{
+    let mut m = 0;
+    while m < keepers.len() {
+        let mark = mark_in(kinds, places, companions, m);
+        keepers[m] = keeper_at(bundle, m, mark.kind, work);
+        m += 1;
+    }
+}
+
+fn one_where_same(keeper: usize, file: usize) -> usize
+    ensures { λ r. ⌜ (r ≡ cond (eqb keeper file) 1 0) × (r ≤ 1) ⌝ }
+{
+    if keeper == file {
+        return 1;
+    }
+    0
+}
+
+// How many marks a file keeps.
+fn count_kept(keepers: &[usize], file: usize) -> usize
+    ensures { λ r. ⌜ r ≡ count (λ keeper. eqb keeper file) (now (keepers .entry)) ⌝ }
+{
+    let mut found = 0;
+    let mut i = 0;
+    while i < keepers.len() {
+        found += one_where_same(keepers[i], file);
+        i += 1;
+    }
+    found
+}
+
+fn kept_sentence(n: usize) -> usize
+    ensures { λ r. ⌜ r ≡ cond (eqb n 1) 81 80 ⌝ }
+{
+    if n == 1 {
+        return KEEPS_ONE;
+    }
+    KEEPS_MANY
+}
+
+// The line of a file that keeps n marks.
+fn put_kept(out: &mut [u8], at: usize, file: usize, n: usize) -> usize
+    ensures { λ r. ⌜ outputAt (now (out .exit)) r ≡ put (outputAt (now (out .entry)) at) (keptLine file n) ⌝ }
+{
+    if n == 0 {
+        return at;
+    }
+    let feed = put_sentence(out, at, kept_sentence(n), file_slots(file, n), b"");
+    put_byte(out, feed, b'\n')
+}
+
+fn put_keepers(out: &mut [u8], at: usize, keepers: &[usize]) -> usize
+    ensures { λ r. ⌜ outputAt (now (out .exit)) r ≡ put (outputAt (now (out .entry)) at) (keptLines (now (keepers .entry)) 20) ⌝ }
+{
+    let mut end = at;
+    let mut file = 0;
+    while file < FILES {
+        end = put_kept(out, end, file, count_kept(keepers, file));
+        file += 1;
+    }
+    end
+}
+
+// ---- The whole text
+
+// The lines of the files that keep marks from being judged, where marks are grouped.
+fn put_groups(
+    out: &mut [u8],
+    at: usize,
+    bundle: &[u8],
+    grouped: bool,
+    kinds: &[u32],
+    places: &[usize],
+    companions: &[usize],
+    work: &mut [u32],
+) -> usize
+    requires { ⌜ 794702 ≤ length (now work) ⌝ }
+    requires { ⌜ length (now kinds) ≡ 81 ⌝ }
+    ensures { λ r. ⌜ outputAt (now (out .exit)) r ≡ put (outputAt (now (out .entry)) at) (cond grouped (keptLines (keepersOf schedule (now (bundle .entry)) (marksIn (now (kinds .entry)) (now (places .entry)) (now (companions .entry)))) 20) []) ⌝ }
+{
+    if !grouped {
+        return at;
+    }
+    let mut keepers = [FILES; MARKS];
+    find_keepers(bundle, kinds, places, companions, work, &mut keepers);
+    put_keepers(out, at, &keepers)
+}
+
+fn put_marks(
+    out: &mut [u8],
+    bundle: &[u8],
+    grouped: bool,
+    kinds: &[u32],
+    places: &[usize],
+    companions: &[usize],
+    work: &mut [u32],
+) -> usize
+    requires { ⌜ 794702 ≤ length (now work) ⌝ }
+    requires { ⌜ length (now kinds) ≡ 81 ⌝ }
+    ensures { λ r. ⌜ outputAt (now (out .exit)) r ≡ put (outputAt (now (out .entry)) 0) (marksText schedule grouped (now (bundle .entry)) (marksIn (now (kinds .entry)) (now (places .entry)) (now (companions .entry)))) ⌝ }
+{
+    let lines = put_counted(out, 0, b"marks ", kinds.len());
+    let groups = put_lines(out, lines, bundle, grouped, kinds, places, companions, work);
+    let last = put_groups(
+        out,
+        groups,
+        bundle,
+        grouped,
+        kinds,
+        places,
+        companions,
+        work,
+    );
+    put_last(out, last, kinds)
+}
+
+// Puts the text of a bundle to the front of an output, as far as there is room, and answers how much
+// stands there. The workspace is lent, whatever it holds; one of fewer than 794,702 numbers is refused
+// as 14.
+pub fn reasons(bundle: &[u8], grouped: bool, work: &mut [u32], out: &mut [u8]) -> usize
+    ensures { λ r. ⌜ r ≡ length (take (length (now (out .entry))) (reasonsIn schedule grouped (now (bundle .entry)) (length (now (work .entry))))) ⌝ }
+    ensures { λ _. ⌜ now (out .exit) ≡ frontPut (reasonsIn schedule grouped (now (bundle .entry)) (length (now (work .entry)))) (now (out .entry)) ⌝ }
+{
+    if work.len() < WORKSPACE {
+        return put_counted(out, 0, b"bundle ", 14);
+    }
+    let verdict = judge_in(bundle, work);
+    if verdict.refusal != 0 {
+        return put_counted(out, 0, b"bundle ", verdict.refusal as usize);
+    }
+    let board = verdict.board;
+    let kinds = board.kinds;
+    let places = board.places;
+    let companions = board.companions;
+    put_marks(out, bundle, grouped, &kinds, &places, &companions, work)
+}

@@ -1,0 +1,38 @@
+-- What is printed, from what the writers of the text ensure.
+-- Assumes nothing.
+use Prim.Native.Nat.{ℕ, _≤_, _<_}
+use mathlib.Core.Path.{_≡_, refl, ap, _∙_}
+use mathlib.Core.Bool.{false}
+use mathlib.Core.List.{List, _++_}
+use native.Mathlib.Omega.{arith}
+use borrow.Author.Tests.{le-leb, lt-ltb, le-ltb}
+use lib.ListN.{length, take, drop}
+use lib.Seq.{take-append-seam}
+use Rattle.table_rows.specs.Ascii.{codes}
+use Rattle.output.specs.Output.{outputAt, put}
+use Rattle.output.proofs.Puts.{put-as-far}
+use Rattle.report.specs.Report.{counted, refusalText}
+use Rattle.gate_marks.specs.Again.{hasRoom}
+use Rattle.schedule.specs.Schedule.{schedule}
+use Rattle.schedule.proofs.Laws.{files-are, workspace-is}
+use Rattle.reason_text.specs.Text.{reasonsIn, frontPut}
+use Rattle.reasons.specs.Printed.{printed}
+
+-- a bundle that is too long
+pub too-long : (s out : List ℕ) → 65536 < length s → {exit : List ℕ} {r : ℕ} → outputAt exit r ≡ put (outputAt out 0) (counted (codes "bundle ") 1) → take r exit ≡ take (length out) (printed s)
+unfolding printed refusalText
+too-long s out l h =
+    let v = counted (codes "bundle ") 1 in
+    let both = h ∙ put-as-far out v in
+    rw (lt-ltb 65536 (length s) l, ap (λ o. o .place) both, ap (λ o. o .bytes) both) (take-append-seam (take (length out) v) (drop (length v) out))
+
+-- and any other, in a workspace of the program's own
+own-text : (s : List ℕ) (lent : ℕ) → length s ≤ 65536 → lent ≡ 794702 → reasonsIn schedule false s lent ≡ printed s
+unfolding printed reasonsIn hasRoom
+own-text s lent l e = rw (le-ltb 65536 (length s) l, workspace-is, le-leb 794702 lent (omega arith), files-are)
+
+pub text-read : (s out : List ℕ) (lent : ℕ) → length s ≤ 65536 → lent ≡ 794702 → {exit : List ℕ} {r : ℕ} → r ≡ length (take (length out) (reasonsIn schedule false s lent)) → exit ≡ frontPut (reasonsIn schedule false s lent) out → take r exit ≡ take (length out) (printed s)
+unfolding frontPut
+text-read s out lent l w e f =
+    let v = reasonsIn schedule false s lent in
+    rw (e, f) (take-append-seam (take (length out) v) (drop (length v) out)) ∙ ap (take (length out)) (own-text s lent l w)

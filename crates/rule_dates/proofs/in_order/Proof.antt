@@ -1,0 +1,57 @@
+-- `rule_dates::in_order` meets its contract: what is left of the search at the loop's head answers as the whole does.
+use borrow.Author.Needs.{needs}
+use mathlib.Core.Path.{_≡_, sym, _∙_}
+use native.Mathlib.Omega.{arith}
+use Prim.Native.Nat.{_-_}
+use native.Mathlib.Nat.{sub-zero}
+use Rattle.rule_cells.specs.Cells.{table, firstFrom, firstOf}
+use Rattle.rule_cells.proofs.Laws.{search-hits, search-goes-on, search-ends}
+use Rattle.rule_dates.specs.Dates.{breaksOrder, inOrder}
+use Rattle.rule_dates.proofs.in_order.Statement.{statement}
+use Rattle.rule_dates.proofs.in_order.Tie as tie
+
+abbrev Inv-loop : tie.InvT-loop
+Inv-loop s cells width records first second r₀ r = inOrder (table s cells width records) first second ≡ firstFrom (breaksOrder (table s cells width 0) first second) (records - r) r
+
+abbrev μ-loop : tie.MeasureT-loop
+μ-loop s cells width records first second r₀ r = records - r
+
+loop-holds : tie.Need-loop-holds Inv-loop μ-loop
+unfolding inOrder firstOf
+loop-holds c = rw sub-zero
+
+breaks-order-requires : tie.Need-breaks-order-requires Inv-loop μ-loop
+breaks-order-requires c κs = search needs
+
+add-result : tie.Need-add-result Inv-loop μ-loop
+add-result c = omega arith
+
+returns : tie.Need-returns Inv-loop μ-loop
+returns c = sym (c .before .before .before .loop .inv ∙ search-hits _ _ _ (c .before .before .loop-test .taken) (sym (c .before .breaks-order .ensures) ∙ c .if1 .taken))
+
+add-r : tie.Need-add-r Inv-loop μ-loop
+add-r c = omega arith
+
+loop-less : tie.Need-loop-less Inv-loop μ-loop
+loop-less c = omega arith
+
+loop-again : tie.Need-loop-again Inv-loop μ-loop
+loop-again c = c .before .before .before .loop .inv ∙ search-goes-on _ _ _ (c .before .before .loop-test .taken) (sym (c .before .breaks-order .ensures) ∙ c .if1 .left)
+
+returns-2 : tie.Need-returns-2 Inv-loop μ-loop
+returns-2 c = sym (c .before .loop .inv ∙ search-ends _ _ _ (c .loop-test .left))
+
+pub in-order-spec : {M : Type 1} → statement M
+in-order-spec =
+    tie.close
+    (tie.spec
+    Inv-loop
+    μ-loop
+    loop-holds
+    breaks-order-requires
+    add-result
+    returns
+    add-r
+    loop-less
+    loop-again
+    returns-2)

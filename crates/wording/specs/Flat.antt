@@ -1,0 +1,11 @@
+-- For the code's sake alone: the sentences laid out flat, as it holds them.
+use Prim.Native.Nat.{ℕ}
+use mathlib.Core.List.{List, flatten}
+use Rattle.table_rows.specs.Rows.{countBefore}
+use Rattle.wording.specs.Sentences.{sentences}
+
+unfoldable pub allSentences : List ℕ
+allSentences = flatten sentences
+
+unfoldable pub sentenceStart : ℕ → ℕ
+sentenceStart n = countBefore sentences n
