@@ -15,6 +15,6 @@ cutWithin value =
     (cond (isCharacter (byteAt value 79)) 79
     (cond (isCharacter (byteAt value 78)) 78 77))
 
--- "A value of more than 80 bytes is cut: its first 80 bytes, less at the end those that belong to a character cut in two"
+-- a value of more than 80 bytes is cut to its first 80, less those at the end that belong to a character cut in two
 unfoldable pub cutLength : List ℕ → ℕ
 cutLength value = cond (leb (length value) 80) (length value) (cutWithin value)

@@ -11,6 +11,7 @@ mod layout;
 mod long;
 mod lookups;
 mod mutated;
+mod one_sum;
 mod outline;
 mod pool;
 mod random_tables;
@@ -53,6 +54,7 @@ pub fn all_cases(seed: u64) -> Vec<GateCase> {
     mutated::add(&mut cases);
     files::add(&mut cases);
     long::add(&mut cases);
+    one_sum::add(&mut cases);
     ids::add(&mut cases);
     layout::add(&mut cases);
     sizes::add(&mut cases);

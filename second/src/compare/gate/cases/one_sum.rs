@@ -1,0 +1,73 @@
+//! Keys that all have one sum (order 7). A lookup by sums alone would take
+//! them for one key, or would compare each with all others.
+
+use super::long::short_record;
+use super::Cases;
+use crate::compare::draft::{quoted, Draft};
+use crate::compare::gate::set_draft::SetDraft;
+use crate::table::MOST_RECORDS;
+
+pub(super) fn add(cases: &mut Cases) {
+    for count in [2, 300, MOST_RECORDS] {
+        add_keys(cases, 6, "ID", count);
+        add_keys(cases, 16, "ID", count);
+        // One task has all links.
+        add_keys(cases, 14, "SuccessorTaskID", count);
+        add_targets(cases, count);
+    }
+}
+
+/// `b[` and `az` have one sum, and so have all texts made of as many of them.
+fn id(number: usize) -> String {
+    let pair = |bit: usize| if number >> bit & 1 == 1 { "az" } else { "b[" };
+    (0..12).map(pair).collect()
+}
+
+fn keyed(table: usize, name: &str, id: &str) -> Draft {
+    short_record(table, 0).with_value(name, &quoted(id))
+}
+
+/// All differ; the last is a copy of the first, of the one before it, and of
+/// the first in capitals; one has another sum.
+fn add_keys(cases: &mut Cases, table: usize, name: &str, count: usize) {
+    let mut records: Vec<Draft> =
+        (0..count).map(|number| keyed(table, name, &id(number))).collect();
+    cases.judge_set(&SetDraft::empty().with_records(table, &records));
+    let last = [id(0), id(count - 2), id(0).to_uppercase(), "c[".to_string()];
+    for text in last {
+        records[count - 1] = keyed(table, name, &text);
+        cases.judge_set(&SetDraft::empty().with_records(table, &records));
+    }
+}
+
+/// Workshifts of such calendars: all are there, and then not the first, not
+/// the last.
+fn add_targets(cases: &mut Cases, count: usize) {
+    let asking: Vec<Draft> = (0..count).map(|number| keyed(7, "CalendarID", &id(number))).collect();
+    let calendars: Vec<Draft> =
+        (0..count).rev().map(|number| keyed(6, "ID", &id(number))).collect();
+    let set = SetDraft::empty().with_records(7, &asking);
+    for found in [&calendars[..], &calendars[1..], &calendars[..count - 1]] {
+        cases.judge_set(&set.with_records(6, found));
+    }
+}
+
+#[cfg(test)]
+mod tests {
+    use std::collections::HashSet;
+
+    use super::id;
+    use crate::table::MOST_RECORDS;
+
+    fn sum(text: &str) -> u32 {
+        text.bytes().fold(0, |sum: u32, byte| sum.wrapping_mul(31).wrapping_add(u32::from(byte)))
+    }
+
+    #[test]
+    fn ids_differ_and_have_one_sum() {
+        let ids: HashSet<String> = (0..MOST_RECORDS).map(id).collect();
+        assert_eq!(ids.len(), MOST_RECORDS);
+        let sums: HashSet<u32> = ids.iter().map(|id| sum(id)).collect();
+        assert_eq!(sums.len(), 1);
+    }
+}
