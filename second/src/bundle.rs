@@ -23,7 +23,7 @@ pub enum FileState {
     Refused(u32),
 }
 
-fn word_at(bytes: &[u8], at: usize) -> u32 {
+pub fn word_at(bytes: &[u8], at: usize) -> u32 {
     let mut word = [0; 4];
     word.copy_from_slice(&bytes[at..at + 4]);
     u32::from_le_bytes(word)
@@ -106,7 +106,7 @@ pub fn build(files: &Files) -> Vec<u8> {
     bundle
 }
 
-fn push_word(bundle: &mut Vec<u8>, word: usize) {
+pub fn push_word(bundle: &mut Vec<u8>, word: usize) {
     let word = u32::try_from(word).expect("a bundle's numbers have 32 bits");
     bundle.extend_from_slice(&word.to_le_bytes());
 }

@@ -18,7 +18,7 @@ pub enum Type {
 
 #[derive(Clone, Copy, Debug)]
 pub struct Field {
-    /// The file number of the table, 1 to 19.
+    /// The file number of the table, 1 to 19; 0 to 3 on the contract side.
     pub table: usize,
     pub name: &'static str,
     pub kind: Type,
@@ -64,11 +64,11 @@ pub const FILE_NAMES: [&str; 20] = [
     "ResourceAssignments",
 ];
 
-const fn given(table: usize, name: &'static str, kind: Type) -> Field {
+pub(crate) const fn given(table: usize, name: &'static str, kind: Type) -> Field {
     Field { table, name, kind, nullable: false }
 }
 
-const fn nullable(table: usize, name: &'static str, kind: Type) -> Field {
+pub(crate) const fn nullable(table: usize, name: &'static str, kind: Type) -> Field {
     Field { table, name, kind, nullable: true }
 }
 

@@ -68,7 +68,7 @@ pub fn touched_marks(number: usize) -> Vec<usize> {
 }
 
 /// The files as they stand after the change, or the refusal 1, 2, 3, 4 or 6.
-fn changed_files<'a>(
+pub(crate) fn changed_files<'a>(
     bundle: &'a [u8],
     number: usize,
     change: Change<'a>,
@@ -87,7 +87,7 @@ fn accepted(board: &Board, number: usize, files: &Files) -> Verdict {
 }
 
 /// The board with these marks judged from the files and all others kept.
-fn judge_marks(mut board: Board, marks: &[usize], files: &Files) -> Board {
+pub fn judge_marks(mut board: Board, marks: &[usize], files: &Files) -> Board {
     let mut readings = Readings { files, read: HashMap::new() };
     for mark in marks {
         board.marks[*mark] = readings.judge_mark(*mark);

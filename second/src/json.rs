@@ -297,7 +297,7 @@ fn is_unicode_white_space(code: u32) -> bool {
 
 // ----------------------------------------------------------------- dates
 
-#[derive(Clone, Copy, Debug, PartialEq, Eq, Hash)]
+#[derive(Clone, Copy, Debug, PartialEq, Eq, PartialOrd, Ord, Hash)]
 pub struct Date {
     pub year: u32,
     pub month: u32,

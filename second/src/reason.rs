@@ -122,7 +122,7 @@ fn start_of(files: &Files, number: usize) -> usize {
 }
 
 /// The field that decides over the record, which breaks the rule.
-fn deciding_field(mark: usize, record: &Record) -> &'static str {
+pub(crate) fn deciding_field(mark: usize, record: &Record) -> &'static str {
     match (mark, rule(mark)) {
         (_, Rule::Key { fields, .. }) => fields[0],
         (_, Rule::OneOf { field, .. }) | (_, Rule::Target { field, .. }) => field,

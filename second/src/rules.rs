@@ -116,7 +116,7 @@ fn target(file: usize, field: &'static str, other: usize, other_field: &'static 
 }
 
 /// The primary keys of files 4 to 19.
-fn key_of(file: usize) -> &'static [&'static str] {
+pub(crate) fn key_of(file: usize) -> &'static [&'static str] {
     match file {
         4 | 5 | 11 | 17 => &["CustomFieldID"],
         6 | 9 | 16 => &["ID"],
@@ -154,6 +154,22 @@ pub fn judge_rule<'a>(number: usize, reading_of: impl Fn(usize) -> &'a Reading) 
     match first_breaking(&rule(number), &tables) {
         Some(Broken { at, companion }) => broken_at(at + 1, companion.map_or(0, |index| index + 1)),
         None => HOLDS,
+    }
+}
+
+/// Where the rule is broken, for a gate that has these rules among others.
+/// `tables` holds the records of the files read, in the order of `files_read`.
+pub(crate) fn breaking(number: usize, tables: &[&[Record]]) -> Option<crate::gates::Broken> {
+    let Broken { at, companion } = first_breaking(&rule(number), tables)?;
+    let companion = companion.map_or(0, |index| index + 1);
+    Some(crate::gates::Broken { record: at + 1, companion })
+}
+
+/// The file in which a rule of 48 to 64 looks for its target.
+pub(crate) fn searched(number: usize) -> Option<usize> {
+    match rule(number) {
+        Rule::Target { other, .. } => Some(other),
+        _ => None,
     }
 }
 

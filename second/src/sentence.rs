@@ -45,7 +45,7 @@ pub fn file_name(number: usize) -> String {
 // ------------------------------------------------------- a file's own mark
 
 /// A place in a file as an editor shows it, both counted from 1.
-fn line_and_column(contents: &[u8], place: usize) -> String {
+pub(crate) fn line_and_column(contents: &[u8], place: usize) -> String {
     let before = std::str::from_utf8(&contents[..place]).expect("the first fault stands behind");
     let line = before.split('\n').count();
     let last = before.rsplit('\n').next().unwrap_or(before);
@@ -75,7 +75,7 @@ fn of_own_mark(number: usize, contents: &[u8], own: Mark) -> String {
     }
 }
 
-fn fault_at_place(kind: u32) -> String {
+pub(crate) fn fault_at_place(kind: u32) -> String {
     let fixed = match kind {
         10 => "the text is not UTF-8 here. Save the file in UTF-8.",
         11 => {
@@ -177,7 +177,7 @@ impl Words {
 /// The value, or of a long one as many whole characters as fit, with dots
 /// behind. As it is one JSON token without raw control bytes, a line stays a
 /// line.
-fn cut(value: &str) -> String {
+pub(crate) fn cut(value: &str) -> String {
     if value.is_empty() {
         return "null".to_string();
     }
@@ -195,7 +195,7 @@ fn cut(value: &str) -> String {
 }
 
 /// `A, B and C`.
-fn listed(words: &[&str], last: &str) -> String {
+pub(crate) fn listed(words: &[&str], last: &str) -> String {
     let (end, front) = words.split_last().expect("there is a word");
     format!("{} {last} {end}", front.join(", "))
 }
@@ -254,7 +254,7 @@ fn of_repeated_key(mark: usize, words: &Words) -> String {
     format!("{} {rest}", words.field_with_value())
 }
 
-fn same_id(other: &str, thing: &str) -> String {
+pub(crate) fn same_id(other: &str, thing: &str) -> String {
     format!(
         "is that of {other} too; capital and small letters count as the same. Give each {thing} an \
         ID of its own."

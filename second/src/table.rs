@@ -102,6 +102,13 @@ impl Record {
         }
     }
 
+    pub fn date(&self, name: &str) -> Option<Date> {
+        match self.value(name) {
+            Some(Value::Date(date)) => Some(*date),
+            _ => None,
+        }
+    }
+
     pub fn is_true(&self, name: &str) -> bool {
         self.value(name) == Some(&Value::Boolean(true))
     }
@@ -117,7 +124,18 @@ pub fn read_file(number: usize, contents: Option<&[u8]>) -> Reading {
         (_, None) => Ok(Vec::new()),
         (0, Some(bytes)) if bytes == FILE_TYPE => Ok(Vec::new()),
         (0, Some(_)) => Err(Fault { kind: WRONG_FILE_TYPE, place: 0 }.into()),
-        (_, Some(bytes)) => Reader { bytes, table: number }.read_whole_file(),
+        (_, Some(bytes)) => {
+            let fields = fields_of(number).collect();
+            Reader { bytes, fields, is_singleton: is_singleton(number) }.read_whole_file()
+        }
+    }
+}
+
+/// Reads an array of records with these fields; omitted it has no records.
+pub fn read_array(fields: Vec<&'static Field>, contents: Option<&[u8]>) -> Reading {
+    match contents {
+        None => Ok(Vec::new()),
+        Some(bytes) => Reader { bytes, fields, is_singleton: false }.read_whole_file(),
     }
 }
 
@@ -162,7 +180,8 @@ enum Begun<'a> {
 
 struct Reader<'a> {
     bytes: &'a [u8],
-    table: usize,
+    fields: Vec<&'static Field>,
+    is_singleton: bool,
 }
 
 impl<'a> Reader<'a> {
@@ -177,7 +196,7 @@ impl<'a> Reader<'a> {
     /// The file's value, and nothing but spaces after it.
     fn read_whole_file(&self) -> Reading {
         let start = self.skip(0);
-        let (records, after) = if is_singleton(self.table) {
+        let (records, after) = if self.is_singleton {
             let (record, after) = self.read_singleton(start)?;
             (vec![record], after)
         } else {
@@ -262,8 +281,8 @@ impl<'a> Reader<'a> {
                 }
             }
         }
-        let is_missing = |field: &Field| !field.nullable && record.is_null(field.name);
-        if fields_of(self.table).any(is_missing) {
+        let is_missing = |field: &&Field| !field.nullable && record.is_null(field.name);
+        if self.fields.iter().any(is_missing) {
             return fault(MISSING_VALUE, place);
         }
         Ok((record, place + 1))
@@ -300,7 +319,8 @@ impl<'a> Reader<'a> {
     /// Decoded, case kept.
     fn field_named(&self, name: &JsonString) -> Option<&'static Field> {
         let codes = || name.characters.iter().map(|c| c.code);
-        fields_of(self.table).find(|field| field.name.chars().map(u32::from).eq(codes()))
+        let is_named = |field: &&&'static Field| field.name.chars().map(u32::from).eq(codes());
+        self.fields.iter().find(is_named).copied()
     }
 
     /// Reads and judges a value of that type; gives it, or nothing for null,

@@ -36,7 +36,16 @@ enum Mode {
 /// Runs the comparison that the arguments of this program ask for, over the
 /// cases that `all_cases` makes of a seed.
 pub fn run<Q: Question>(name: &str, all_cases: fn(u64) -> Vec<Q>) -> ExitCode {
-    let asked = parse(std::env::args().skip(1));
+    run_with(name, std::env::args().skip(1), all_cases)
+}
+
+/// The same with these arguments.
+pub fn run_with<Q: Question>(
+    name: &str,
+    arguments: impl Iterator<Item = String>,
+    all_cases: fn(u64) -> Vec<Q>,
+) -> ExitCode {
+    let asked = parse(arguments);
     let status = asked.and_then(|options| match &options.mode {
         Mode::Serve => Ok(serve_standard_input::<Q>()),
         Mode::Itself => compare(&options, &all_cases(options.seed), compare_with_self),

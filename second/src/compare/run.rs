@@ -34,6 +34,12 @@ pub trait Question: Sized + Sync {
     /// The next answer, or nothing if no whole answer is left.
     fn read_answer(&self, input: &mut impl Read) -> Option<Self::Answer>;
 
+    /// Whether an answer is right: the one that this program gives, or, where
+    /// several are right, any of these.
+    fn agrees(&self, expected: &Self::Answer, answered: &Self::Answer) -> bool {
+        answered == expected
+    }
+
     /// The case and what is wrong with its answer, in lines.
     fn describe(&self, expected: &Self::Answer, answered: &Self::Answer) -> String;
 
@@ -213,7 +219,7 @@ fn compare_answers<Q: Question>(
         let expected = case.answer();
         seen.extend(case.sights(&expected));
         match next(case) {
-            Some(answered) if answered == expected => tally.passed += 1,
+            Some(answered) if case.agrees(&expected, &answered) => tally.passed += 1,
             Some(answered) => {
                 let shown = case.describe(&expected, &answered);
                 tally.fail(1, format!("{}: {shown}", how_to_ask_again(run.seed, number)));

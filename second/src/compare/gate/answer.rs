@@ -89,7 +89,7 @@ impl Answer {
 
     /// Of a part longer than any bundle no byte is read: it is wrong by its
     /// length alone.
-    pub(super) fn read_found(input: &mut impl Read) -> io::Result<Answer> {
+    pub(in crate::compare) fn read_found(input: &mut impl Read) -> io::Result<Answer> {
         let state = read_word(input)?;
         let refusal = read_word(input)?;
         let length = read_word(input)?;
@@ -98,7 +98,7 @@ impl Answer {
         Ok(Answer::Found(Part { state, refusal, length, bytes }))
     }
 
-    pub(super) fn read_told(input: &mut impl Read) -> io::Result<Answer> {
+    pub(in crate::compare) fn read_told(input: &mut impl Read) -> io::Result<Answer> {
         let mut nine = [0; 9];
         for word in &mut nine {
             *word = read_word(input)?;
@@ -144,7 +144,7 @@ impl Answer {
     }
 }
 
-fn nine(reason: Reason) -> Nine {
+pub(in crate::compare) fn nine(reason: Reason) -> Nine {
     match reason {
         Reason::Refused(refusal) => [REFUSED, refusal, 0, 0, 0, 0, 0, 0, 0],
         Reason::Holds => [HOLDING, 0, 0, 0, 0, 0, 0, 0, 0],
@@ -169,7 +169,7 @@ fn word(number: usize) -> u32 {
 }
 
 /// A reason's numbers, also such as no reason has.
-fn shown_reason(nine: &Nine) -> String {
+pub(in crate::compare) fn shown_reason(nine: &Nine) -> String {
     let [tag, numbers @ ..] = nine;
     let named = match *tag {
         REFUSED => "refused",
@@ -183,14 +183,14 @@ fn shown_reason(nine: &Nine) -> String {
     format!("{named} {numbers:?}")
 }
 
-pub(super) fn write_board(out: &mut impl Write, board: &Board) -> io::Result<()> {
+pub(in crate::compare) fn write_board(out: &mut impl Write, board: &Board) -> io::Result<()> {
     for mark in &board.marks {
         write_words(out, &[mark.kind, mark.place, mark.companion])?;
     }
     Ok(())
 }
 
-pub(super) fn read_board(input: &mut impl Read) -> io::Result<Board> {
+pub(in crate::compare) fn read_board(input: &mut impl Read) -> io::Result<Board> {
     let mut board = Board::fresh();
     for mark in &mut board.marks {
         *mark = Mark {
@@ -210,14 +210,14 @@ pub(super) fn differences(expected: &Answer, answered: &Answer) -> Vec<String> {
         lines.push(format!("  answered {}", answered.head()));
     }
     if let (Some(expected), Some(answered)) = (expected.board(), answered.board()) {
-        lines.extend(board_differences(expected, answered));
+        lines.extend(mark_differences(&expected.marks, &answered.marks));
     }
     lines.extend(byte_difference(expected.bytes(), answered.bytes()));
     lines
 }
 
-fn board_differences(expected: &Board, answered: &Board) -> Vec<String> {
-    let pairs = expected.marks.iter().zip(&answered.marks).enumerate();
+pub(in crate::compare) fn mark_differences(expected: &[Mark], answered: &[Mark]) -> Vec<String> {
+    let pairs = expected.iter().zip(answered).enumerate();
     let mut lines: Vec<String> = pairs
         .filter(|(_, (expected, answered))| expected != answered)
         .map(|(number, (expected, answered))| {
@@ -238,7 +238,7 @@ fn shown(mark: &Mark) -> String {
     format!("{kind} at {place} with {companion}")
 }
 
-fn byte_difference(expected: &[u8], answered: &[u8]) -> Option<String> {
+pub(in crate::compare) fn byte_difference(expected: &[u8], answered: &[u8]) -> Option<String> {
     let at = expected.iter().zip(answered).position(|(a, b)| a != b)?;
     let (right, wrong) = (expected[at], answered[at]);
     Some(format!("  byte {at}: expected {right:02x}, answered {wrong:02x}"))
@@ -366,7 +366,7 @@ mod tests {
     #[test]
     fn only_some_wrong_marks_are_shown() {
         let all = Board { marks: [Mark { kind: 9, place: 9, companion: 9 }; MARKS] };
-        let lines = board_differences(&board(), &all);
+        let lines = mark_differences(&board().marks, &all.marks);
         assert_eq!(lines.len(), 11);
         assert_eq!(lines[10], "  and 71 more marks");
     }

@@ -283,11 +283,11 @@ impl Question for GateCase {
 }
 
 impl Change {
-    fn bytes(&self) -> Option<&[u8]> {
+    pub(in crate::compare) fn bytes(&self) -> Option<&[u8]> {
         self.new.as_deref().map(Vec::as_slice)
     }
 
-    fn describe(&self) -> String {
+    pub(in crate::compare) fn describe(&self) -> String {
         match &self.new {
             Some(new) => format!("file {} replaced by {} bytes", self.number, new.len()),
             None => format!("file {} withdrawn", self.number),
@@ -331,7 +331,7 @@ fn answer_made(bundle: &[u8], change: &Change, output: Output) -> Answer {
 }
 
 /// The length of the bundle after an accepted change.
-pub(super) fn new_length(bundle: &[u8], change: &Change) -> usize {
+pub(in crate::compare) fn new_length(bundle: &[u8], change: &Change) -> usize {
     let old = file_part(bundle, change.number as usize);
     bundle.len() - old.len() + change.bytes().map_or(0, <[u8]>::len)
 }

@@ -17,7 +17,7 @@ use crate::table::{is_singleton, read_file};
 
 /// Mark numbers far over 80, and such as would be a mark's if some of their
 /// bits were lost.
-pub(super) const LARGE_MARKS: [u32; 12] = [
+pub(in crate::compare) const LARGE_MARKS: [u32; 12] = [
     127,
     128,
     255,
@@ -335,14 +335,14 @@ fn front(bundle: &[u8], file: usize) -> Front {
 // --------------------------------------------------------------- members
 
 /// A name, decoded, and where its value stands in the file.
-struct Member {
-    name: Vec<u32>,
-    value: Range<usize>,
+pub(in crate::compare) struct Member {
+    pub name: Vec<u32>,
+    pub value: Range<usize>,
 }
 
 /// The members of the record of that number, in the order in which they are
 /// written. The file must be readable: no value has parts.
-fn members(bytes: &[u8], record: usize) -> Vec<Member> {
+pub(in crate::compare) fn members(bytes: &[u8], record: usize) -> Vec<Member> {
     let mut begun = 0;
     let mut members = Vec::new();
     let mut name = None;

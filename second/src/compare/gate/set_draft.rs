@@ -143,7 +143,7 @@ pub(in crate::compare) fn places(count: usize) -> Vec<usize> {
 }
 
 /// The same among the records from `first` on.
-pub(super) fn places_from(first: usize, count: usize) -> Vec<usize> {
+pub(in crate::compare) fn places_from(first: usize, count: usize) -> Vec<usize> {
     let last = count.saturating_sub(1);
     let all = [first, (first + count) / 2, last];
     let mut places: Vec<usize> = all.into_iter().filter(|at| (first..count).contains(at)).collect();

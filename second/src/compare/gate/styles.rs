@@ -20,7 +20,11 @@ pub(in crate::compare) fn restyled(set: &SetDraft, random: &mut Random) -> SetDr
 }
 
 /// The file of these records, written in another way.
-pub(super) fn restyled_file(table: usize, records: &[Draft], random: &mut Random) -> Vec<u8> {
+pub(in crate::compare) fn restyled_file(
+    table: usize,
+    records: &[Draft],
+    random: &mut Random,
+) -> Vec<u8> {
     let records: Vec<Draft> =
         records.iter().map(|record| restyled_record(table, record, random)).collect();
     let often = random.pick(&[3, 8, 1000]);
@@ -58,7 +62,7 @@ fn is_id(table: usize, name: &[u8]) -> bool {
     fields_of(table).any(|field| field.kind == Type::StringID && field.name.as_bytes() == name)
 }
 
-pub(super) fn shuffle<T>(list: &mut [T], random: &mut Random) {
+pub(in crate::compare) fn shuffle<T>(list: &mut [T], random: &mut Random) {
     for index in (1..list.len()).rev() {
         list.swap(index, random.below(index + 1));
     }
@@ -66,7 +70,7 @@ pub(super) fn shuffle<T>(list: &mut [T], random: &mut Random) {
 
 /// The string with its letters in lower, upper or mixed case; anything else as
 /// it is.
-pub(super) fn recased(value: &[u8], random: &mut Random) -> Vec<u8> {
+pub(in crate::compare) fn recased(value: &[u8], random: &mut Random) -> Vec<u8> {
     if !value.starts_with(b"\"") {
         return value.to_vec();
     }
@@ -91,7 +95,7 @@ fn with_case(code: u32, upper: bool) -> u32 {
 }
 
 /// The string with some of its characters as escapes.
-pub(super) fn escaped(value: &[u8], random: &mut Random) -> Vec<u8> {
+pub(in crate::compare) fn escaped(value: &[u8], random: &mut Random) -> Vec<u8> {
     let often = random.pick(&[1, 2, 4]);
     rewritten(value, |code| match random.below(often) {
         0 => written(code, random.pick(&STYLES)),
@@ -105,7 +109,7 @@ fn rewritten(string: &[u8], character: impl FnMut(u32) -> Vec<u8>) -> Vec<u8> {
 }
 
 /// A plain whole number in another form; anything else as it is.
-pub(super) fn renumbered(value: &[u8], random: &mut Random) -> Vec<u8> {
+pub(in crate::compare) fn renumbered(value: &[u8], random: &mut Random) -> Vec<u8> {
     let digits = value.strip_prefix(b"-").unwrap_or(value);
     let is_plain = !digits.is_empty() && digits.iter().all(u8::is_ascii_digit);
     if !is_plain {

@@ -10,8 +10,8 @@ use crate::compare::wire::{read_first_word, read_slice_within, read_word, unsoun
 use crate::print::reasons;
 
 /// No answer is read that is longer: it would be no text of 81 marks.
-const LONGEST_TEXT: usize = 1 << 20;
-const LONGEST_SHOWN: usize = 600;
+pub(super) const LONGEST_TEXT: usize = 1 << 20;
+pub(super) const LONGEST_SHOWN: usize = 600;
 
 #[derive(Clone, Debug, PartialEq, Eq)]
 pub struct TextCase {
@@ -81,7 +81,7 @@ impl Question for TextCase {
 
 /// The first line in which two texts differ, of either of them; nothing for one
 /// that has ended there.
-fn first_difference(expected: &[u8], answered: &[u8]) -> Vec<String> {
+pub(super) fn first_difference(expected: &[u8], answered: &[u8]) -> Vec<String> {
     let mut right = expected.split_inclusive(|byte| *byte == b'\n');
     let mut wrong = answered.split_inclusive(|byte| *byte == b'\n');
     let mut number = 1;

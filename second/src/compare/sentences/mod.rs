@@ -3,4 +3,5 @@
 
 pub mod case;
 pub mod cases;
+pub mod gates;
 mod sights;

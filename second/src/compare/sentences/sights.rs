@@ -197,20 +197,45 @@ fn spots_of(kind: u32) -> Vec<Spot> {
 // ------------------------------------------------------------------ seen
 
 pub(super) fn sights_of(case: &TextCase, text: &[u8]) -> Vec<Sight> {
-    let grouped = case.grouped;
-    if let Err(refusal) = files(&case.bundle) {
-        return vec![Sight::Refused { refusal, grouped }];
-    }
-    let text = std::str::from_utf8(text).expect("the right text is UTF-8");
-    text.lines().flat_map(|line| of_line(case, line)).collect()
+    let bundle = &case.bundle;
+    let asked = Asked {
+        bundle,
+        grouped: case.grouped,
+        file_names: &FILE_NAMES,
+        refusal: files(bundle).err(),
+        reason: &|mark| reason(bundle, mark),
+        part: &|file| file_part(bundle, file),
+        parents: &[79],
+    };
+    sights_of_gate(&asked, text)
 }
 
-fn of_line(case: &TextCase, line: &str) -> Vec<Sight> {
+/// A bundle of any gate whose text is asked for.
+pub(super) struct Asked<'a> {
+    pub bundle: &'a [u8],
+    pub grouped: bool,
+    pub file_names: &'a [&'a str],
+    pub refusal: Option<u32>,
+    pub reason: &'a dyn Fn(usize) -> Reason,
+    pub part: &'a dyn Fn(usize) -> &'a [u8],
+    /// The marks that name the parent by Level.
+    pub parents: &'a [usize],
+}
+
+pub(super) fn sights_of_gate(asked: &Asked, text: &[u8]) -> Vec<Sight> {
+    if let Some(refusal) = asked.refusal {
+        return vec![Sight::Refused { refusal, grouped: asked.grouped }];
+    }
+    let text = std::str::from_utf8(text).expect("the right text is UTF-8");
+    text.lines().flat_map(|line| of_line(asked, line)).collect()
+}
+
+fn of_line(asked: &Asked, line: &str) -> Vec<Sight> {
     if line == "accepted" {
-        return vec![Sight::Accepted { grouped: case.grouped }];
+        return vec![Sight::Accepted { grouped: asked.grouped }];
     }
     if let Some((name, rest)) = line.split_once(".json does not hold, so that ") {
-        let file = FILE_NAMES.iter().position(|other| *other == name);
+        let file = asked.file_names.iter().position(|other| *other == name);
         let marks = rest.split(' ').next().and_then(|count| count.parse().ok());
         return match (file, marks) {
             (Some(file), Some(marks)) => vec![Sight::Kept { file, marks }],
@@ -219,22 +244,26 @@ fn of_line(case: &TextCase, line: &str) -> Vec<Sight> {
     }
     // The first line and the last have no number in front.
     match line.split(' ').next().and_then(|number| number.parse().ok()) {
-        Some(mark) => of_mark(case, mark),
+        Some(mark) => of_mark(asked, mark),
         None => Vec::new(),
     }
 }
 
-fn of_mark(case: &TextCase, mark: usize) -> Vec<Sight> {
-    match reason(&case.bundle, mark) {
+fn of_mark(asked: &Asked, mark: usize) -> Vec<Sight> {
+    match (asked.reason)(mark) {
         Reason::Refused(_) | Reason::Holds => Vec::new(),
         Reason::NotJudged { file } => vec![Sight::NotJudged { mark, file }],
         Reason::Broken(shown) | Reason::Missing { shown, .. } => {
-            of_shown(mark, shown, shown.value(&case.bundle))
+            let mut sights = of_shown(mark, shown, shown.value(asked.bundle));
+            if asked.parents.contains(&mark) {
+                sights.push(Sight::Parent { named: shown.companion > 0 });
+            }
+            sights
         }
         Reason::OwnMark(own) => {
             let mut sights = vec![Sight::Own { number: mark, kind: own.kind }];
             if PLACED.contains(&own.kind) {
-                let contents = file_part(&case.bundle, mark);
+                let contents = (asked.part)(mark);
                 sights.extend(of_place(own.kind, contents, own.place as usize));
             }
             if own.companion > 0 {
@@ -257,9 +286,6 @@ fn of_shown(mark: usize, shown: Shown, value: &[u8]) -> Vec<Sight> {
     ];
     if shown.companion > 0 {
         sights.push(digits(Number::Companion, shown.companion));
-    }
-    if mark == 79 {
-        sights.push(Sight::Parent { named: shown.companion > 0 });
     }
     if value.len() > LONGEST_VALUE {
         sights.extend(of_cut(mark, value));

@@ -34,7 +34,8 @@ use crate::compare::random::Random;
 pub(in crate::compare) use breaking::broken_sets;
 pub(in crate::compare) use long::short_record;
 pub(in crate::compare) use lookups::refused_bundles;
-pub(in crate::compare) use mutated::random_set;
+pub(in crate::compare) use mutated::{damaged, random_set};
+pub(in crate::compare) use pool::Pool;
 pub(in crate::compare) use reasons::{behind_others, Front};
 
 /// The same seed always gives the same cases in the same order.
@@ -62,6 +63,22 @@ pub fn all_cases(seed: u64) -> Vec<GateCase> {
     runs::add(&mut cases);
     lookups::add(&mut cases);
     reasons::add(&mut cases);
+    cases.list
+}
+
+/// Cases for calls that answer the same questions with a list beside them: keys,
+/// targets, IDs of every sort, files that can't be read, layouts, changes and
+/// runs of them.
+pub(in crate::compare) fn cases_with_keys(seed: u64) -> Vec<GateCase> {
+    let base = SetDraft::accepted();
+    let mut cases = Cases { list: Vec::new(), random: Random::new(seed), base };
+    keys::add(&mut cases);
+    targets::add(&mut cases);
+    unread::add(&mut cases);
+    ids::add(&mut cases);
+    layout::add(&mut cases);
+    changes::add(&mut cases);
+    runs::add(&mut cases);
     cases.list
 }
 
@@ -115,7 +132,7 @@ impl Cases {
 
 /// File numbers on both sides of the last one, and such as would be a file's if
 /// some of their bits were lost.
-const FILE_NUMBERS: [u32; 14] = [
+pub(in crate::compare) const FILE_NUMBERS: [u32; 14] = [
     0,
     5,
     19,
@@ -145,13 +162,13 @@ fn any_change(cases: &mut Cases) -> Change {
 }
 
 /// The file replaced by these bytes or withdrawn.
-fn change(board: Board, number: usize, new: Option<Vec<u8>>) -> Change {
+pub(in crate::compare) fn change(board: Board, number: usize, new: Option<Vec<u8>>) -> Change {
     Change { board, number: number as u32, new: new.map(Arc::new) }
 }
 
 /// Marks that need not be those of any set: kinds, places and companions of any
 /// size.
-fn random_board(random: &mut Random) -> Board {
+pub(in crate::compare) fn random_board(random: &mut Random) -> Board {
     let mut board = Board::fresh();
     for mark in &mut board.marks {
         *mark = random_mark(random);
@@ -159,7 +176,7 @@ fn random_board(random: &mut Random) -> Board {
     board
 }
 
-fn random_mark(random: &mut Random) -> Mark {
+pub(in crate::compare) fn random_mark(random: &mut Random) -> Mark {
     let kind = match random.below(8) {
         0 => random.next_number() as u32,
         1 => u32::MAX,

@@ -119,7 +119,7 @@ fn damage(set: &mut SetDraft, random: &mut Random) {
     }
 }
 
-pub(super) fn damaged(bytes: &[u8], random: &mut Random) -> Vec<u8> {
+pub(in crate::compare) fn damaged(bytes: &[u8], random: &mut Random) -> Vec<u8> {
     let mut bytes = bytes.to_vec();
     if bytes.is_empty() {
         return bytes;

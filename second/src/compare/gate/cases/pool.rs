@@ -12,7 +12,7 @@ use crate::compare::gate::styles::restyled_file;
 use crate::compare::random::Random;
 
 /// For each file some contents.
-pub(super) struct Pool {
+pub(in crate::compare) struct Pool {
     versions: Vec<Vec<Bytes>>,
 }
 
