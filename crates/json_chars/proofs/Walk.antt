@@ -5,8 +5,9 @@ use mathlib.Core.Path.{_≡_, refl, sym, ap, _∙_}
 use mathlib.Core.Bool.{true, false}
 use mathlib.Core.List.{List, [], _∷_}
 use native.Mathlib.Omega.{arith}
-use borrow.Author.Tests.{eq-eqb, ne-eqb}
+use borrow.Author.Tests.{eq-eqb, ne-eqb, lt-ltb, le-ltb}
 use lib.ListN.{length}
+use lib.Dec.{eqb}
 use Rattle.json_bytes.specs.Reads.{byteAt}
 use Rattle.json_chars.specs.Step.{stepAt}
 use Rattle.json_chars.specs.Chars.{charsFrom, charsAt}
@@ -68,3 +69,8 @@ module _ (s : List ℕ) (at : ℕ) where
   pub unopened : (byteAt s at ≡ 34 → ⊥) → charsAt s at ≡ []
   unfolding charsAt
   unopened n = rw (ne-eqb (byteAt s at) 34 n)
+
+-- ---- a byte of ASCII that is no control, no quote and no backslash is a character by itself
+pub own-step : (s : List ℕ) (i : ℕ) → 32 ≤ byteAt s i → byteAt s i < 128 → eqb (byteAt s i) 34 ≡ false → eqb (byteAt s i) 92 ≡ false → stepAt s i ≡ Char (byteAt s i) (i + 1)
+unfolding stepAt
+own-step s i from to quote slash = rw (le-ltb (byteAt s i) 32 from, quote, slash, lt-ltb (byteAt s i) 128 to)

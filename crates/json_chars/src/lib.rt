@@ -2,6 +2,8 @@
 // The answer carries the place behind the character, so that a caller can walk a string, and point
 // at a character, without a copy.
 ghost use mathlib.Core.Path.{_≡_};
+ghost use mathlib.Core.Bool.{cond};
+ghost use lib.Dec.{eqb};
 ghost use Prim.Native.Nat.{_+_, _^_, _<_};
 ghost use lib.ListN.{length};
 ghost use Rattle.json_chars.specs.Step.{second, isTwo, isThree, isFour, sequenceOf, sequenceAt, letterEscape, hexDigit, digitAt, unitAt, unitOf, escapedAt, isPair, joined, escapeAt, stepAt};
@@ -256,6 +258,19 @@ fn escape_at(s: &[u8], i: usize) -> Step
     }
 }
 
+// A character that is written in more than one byte: an escape or a sequence.
+// It stands apart from `step_at`, and is called from two places there, so that what is nearly always met is
+// a few instructions, which the compiler puts where they are needed.
+fn rare_at(s: &[u8], i: usize, b: u32) -> Step
+    requires { ⌜ i < length (now s) ⌝ }
+    ensures { λ r. ⌜ r ≡ cond (eqb b 92) (escapeAt (now (s .entry)) i) (sequenceAt (now (s .entry)) i) ⌝ }
+{
+    if b == 92 {
+        return escape_at(s, i);
+    }
+    sequence_at(s, i)
+}
+
 // What stands at a place inside a string.
 pub fn step_at(s: &[u8], i: usize) -> Step
     ensures { λ r. ⌜ r ≡ stepAt (now (s .entry)) i ⌝ }
@@ -268,7 +283,7 @@ pub fn step_at(s: &[u8], i: usize) -> Step
         return Step::Close;
     }
     if b == 92 {
-        return escape_at(s, i);
+        return rare_at(s, i, b);
     }
     if b < 128 {
         return Step::Char {
@@ -276,5 +291,5 @@ pub fn step_at(s: &[u8], i: usize) -> Step
             next: i + 1,
         };
     }
-    sequence_at(s, i)
+    rare_at(s, i, b)
 }

@@ -1,25 +1,29 @@
 -- Reading a string and its rules at once: what is left at a place, one law for each answer of a step, and what a caller
 -- needs of a whole reading.
 -- Assumes nothing.
-use Prim.Native.Nat.{ℕ, zero, suc, _+_, _≤_, _<_}
+use Prim.Native.Nat.{ℕ, zero, suc, _+_, _-_, _≤_, _<_}
 use mathlib.Core.Path.{_≡_, refl, sym, ap, _∙_}
 use mathlib.Core.Bool.{Bool, true, false, cond, _||_}
 use mathlib.Core.List.{List}
 use native.Mathlib.Omega.{arith}
-use borrow.Author.Tests.{eq-eqb, ne-eqb, lt-ltb, le-ltb}
+use borrow.Author.Tests.{eq-eqb, ne-eqb, lt-ltb, le-ltb, ltb-true, ltb-false, eqb-true, eqb-false}
 use lib.ListN.{length}
 use lib.Dec.{ltb, eqb}
-use Rattle.json_bytes.specs.Reads.{byteAt}
+use Rattle.json_bytes.specs.Reads.{byteAt, within}
 use Rattle.json_bytes.specs.declared.Reading.{Reading}
 use Rattle.json_bytes.specs.declared.Reading.the-variants.{Whole, Fault}
 use Rattle.json_chars.specs.Step.{stepAt}
 use Rattle.json_chars.specs.declared.Step.{Step}
 use Rattle.json_chars.specs.declared.Step.the-variants.{Char, Close, Bad}
+use Rattle.json_bytes.proofs.Laws.{within-from, within-to}
 use Rattle.json_chars.proofs.Bounds.{step-good, Good}
+use Rattle.json_chars.proofs.Walk.{own-step}
+use Rattle.json_text.specs.Run.{isGraphic, Run, edgeBehind}
 use Rattle.json_text.specs.Text.{textFrom, textAt, ruleOf, none, wrongHere, firstOf, closesAt, wrongFrom, wrongAt, textRead}
 use Rattle.json_text.specs.declared.TextType.{TextType}
 use Rattle.json_text.specs.declared.Wrong.{Wrong}
 use Rattle.json_text.specs.declared.TextRead.{TextRead}
+use Rattle.json_text.proofs.Spaces.{graphic-right}
 
 -- ---- the first of several wrong characters
 module _ (w v : Wrong) where
@@ -111,6 +115,63 @@ module _ (ty : TextType) (s : List ℕ) (at : ℕ) (w : Wrong) (i : ℕ) (edge :
   take-bad kind place e =
       let p = bad-by ty s at w i edge (left .fuel) (left .inside) (left .enough) (left .reads) (left .wrongs) kind place e in
       both ty s at (p .0) (p .1 ∙ left .tidy)
+
+-- ---- a run of bytes that are characters by themselves and break no rule
+pub run-none : (s : List ℕ) (i : ℕ) → Run s i i
+run-none s i = record { onwards = omega arith; graphic = λ k a b. absurd (omega arith) }
+
+pub run-on : (s : List ℕ) (i j : ℕ) → Run s i j → isGraphic (byteAt s j) ≡ true → Run s i (j + 1)
+run-on s i j run g =
+    record { onwards = omega (arith, run .onwards); graphic = λ k a b. go k a (eqb k j) refl b }
+  where
+    go : (k : ℕ) → i ≤ k → (t : Bool) → eqb k j ≡ t → k < j + 1 → isGraphic (byteAt s k) ≡ true
+    go k a true e b = rw (← (eqb-true k j e)) at g
+    go k a false e b = run .graphic k a (omega (arith, eqb-false k j e))
+
+not-first : (t u : Bool) → cond t false u ≡ true → (t ≡ false) × (u ≡ true)
+not-first true u e = (cc, cc)
+not-first false u e = (refl, e)
+
+graphic-step : (s : List ℕ) (k : ℕ) → isGraphic (byteAt s k) ≡ true → (stepAt s k ≡ Char (byteAt s k) (k + 1)) × (within 0x21 0x7E (byteAt s k) ≡ true)
+unfolding isGraphic
+graphic-step s k g =
+    let quote : (eqb (byteAt s k) 34 ≡ false) × (cond (eqb (byteAt s k) 92) false (within 0x21 0x7E (byteAt s k)) ≡ true) = not-first (eqb (byteAt s k) 34) _ g in
+    let slash : (eqb (byteAt s k) 92 ≡ false) × (within 0x21 0x7E (byteAt s k) ≡ true) = not-first (eqb (byteAt s k) 92) _ (quote .1) in
+    let from = within-from 0x21 0x7E (byteAt s k) (slash .1) in
+    let to = within-to 0x21 0x7E (byteAt s k) (slash .1) in
+    (own-step s k (omega (arith, from)) (omega (arith, to)) (quote .0) (slash .0), slash .1)
+
+right-here : (w : Wrong) (i : ℕ) → firstOf w none ≡ w → firstOf w (wrongHere 0 i) ≡ w
+unfolding wrongHere
+right-here w i tidy = tidy
+
+module _ (ty : TextType) (s : List ℕ) (at : ℕ) (w : Wrong) where
+  -- one of them
+  along-one : (i : ℕ) (edge : Bool) → Left ty s at w i edge → isGraphic (byteAt s i) ≡ true → Left ty s at w (i + 1) false
+  along-one i edge left g =
+      let one = graphic-step s i g in
+      rw (ne-eqb (byteAt s i) 32 (λ e. omega (arith, within-from 0x21 0x7E (byteAt s i) (one .1)))) at
+      (take-char ty s at w i edge left (byteAt s i) (i + 1) 0 (edge || closesAt s (i + 1)) w (one .0) refl (sym (graphic-right (byteAt s i) (within 0x21 0x7E (byteAt s i)) refl (one .1) ty (edge || closesAt s (i + 1)))) (sym (right-here w i (left .tidy))))
+
+  -- as many as there are
+  along-all : (n i : ℕ) (edge : Bool) → Left ty s at w i edge → ((k : ℕ) → i ≤ k → k < i + suc n → isGraphic (byteAt s k) ≡ true) → Left ty s at w (i + suc n) false
+  along-all zero i edge left g = along-one i edge left (g i (omega arith) (omega arith))
+  along-all (suc n) i edge left g =
+      let next : (i + 1) + suc n ≡ i + suc (suc n) = omega arith in
+      rw next at (along-all n (i + 1) false (along-one i edge left (g i (omega arith) (omega arith))) (λ k l m. g k (omega arith) (omega arith)))
+
+  pub along-run : (i j : ℕ) (edge : Bool) → Left ty s at w i edge → Run s i j → Left ty s at w j (edgeBehind edge i j)
+  unfolding edgeBehind
+  along-run i j edge left run = go (ltb i j) refl
+    where
+      go : (t : Bool) → ltb i j ≡ t → Left ty s at w j (cond t false edge)
+      go true e =
+          let l = ltb-true i j e in
+          let is : i + suc (j - i - 1) ≡ j = omega (arith, l) in
+          rw is at (along-all (j - i - 1) i edge left (λ k a b. run .graphic k a (omega (arith, is))))
+      go false e =
+          let is : i ≡ j = omega (arith, ltb-false i j e, run .onwards) in
+          rw is at left
 
 module _ (ty : TextType) (s : List ℕ) (at : ℕ) where
   pub opened : at < length s → byteAt s at ≡ 34 → Left ty s at (record { rule = 0; place = 0 }) (at + 1) true

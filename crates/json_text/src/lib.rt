@@ -1,6 +1,7 @@
 // A string read whole, with the first character that breaks a rule of its type, in one pass.
 ghost use mathlib.Core.Path.{_≡_};
 ghost use mathlib.Core.Bool.{_||_};
+ghost use Rattle.json_text.specs.Run.{isGraphic, Run, edgeBehind};
 ghost use Rattle.json_text.specs.Text.{barred, whiteSpace, blanks, inRuns, isWhite, wrongSpace, outsideID, ruleOf, wrongHere, firstOf, closesAt, textRead};
 use json_bytes::Reading;
 use json_bytes::byte_at;
@@ -167,6 +168,45 @@ fn first_of(earlier: Wrong, rule: u32, i: usize) -> Wrong
     Wrong { rule: 0, place: 0 }
 }
 
+// Whether a byte is a character by itself that breaks no rule of any type: U+0021 to U+007E but the quote
+// and the backslash.
+fn is_graphic(b: u8) -> bool
+    ensures { λ r. ⌜ r ≡ isGraphic b ⌝ }
+{
+    if b == 34 {
+        return false;
+    }
+    if b == 92 {
+        return false;
+    }
+    is_within(0x21, 0x7E, b as u32)
+}
+
+// The first place from i on that does not hold such a byte.
+fn run_end(s: &[u8], i: usize) -> usize
+    ensures { λ r. ⌜ Run (now (s .entry)) i r ⌝ }
+{
+    let mut j = i;
+    while j < s.len() {
+        if is_graphic(s[j]) {
+            j += 1;
+        } else {
+            return j;
+        }
+    }
+    j
+}
+
+// Behind a run of such bytes there is no edge.
+fn is_edge_behind(edge: bool, i: usize, j: usize) -> bool
+    ensures { λ r. ⌜ r ≡ edgeBehind edge i j ⌝ }
+{
+    if i < j {
+        return false;
+    }
+    edge
+}
+
 // The string whose opening quote stands at `at`: the place behind its closing quote or its fault,
 // and its first character that breaks a rule of the type.
 pub fn read_text(s: &[u8], at: usize, ty: TextType) -> TextRead
@@ -185,15 +225,17 @@ pub fn read_text(s: &[u8], at: usize, ty: TextType) -> TextRead
     let mut i = at + 1;
     let mut edge = true;
     loop {
-        match step_at(s, i) {
+        let j = run_end(s, i);
+        match step_at(s, j) {
             Step::Char { code, next } => {
-                wrong = first_of(wrong, rule_of(ty, code, is_edge(edge, s, next)), i);
+                let near = is_edge(is_edge_behind(edge, i, j), s, next);
+                wrong = first_of(wrong, rule_of(ty, code, near), j);
                 edge = code == 32;
                 i = next;
             }
             Step::Close => {
                 return TextRead {
-                    reading: Reading::Whole { end: i + 1 },
+                    reading: Reading::Whole { end: j + 1 },
                     wrong,
                 };
             }

@@ -20,12 +20,12 @@ returns-2 : tie.Need-returns-2
 unfolding stepAt
 returns-2 c = rw (← (c .before .before .number-at .ensures .0), le-ltb _ 32 (c .before .if1 .left), eq-eqb _ 34 (c .if2 .taken))
 
-escape-at-requires : tie.Need-escape-at-requires
-escape-at-requires c κs = inside (now (c .before .before .before .before .before .args .s)) _ _ (sym (c .before .before .before .number-at .ensures .0)) (omega arith)
+rare-at-requires : tie.Need-rare-at-requires
+rare-at-requires c κs = inside (now (c .before .before .before .before .before .args .s)) _ _ (sym (c .before .before .before .number-at .ensures .0)) (omega arith)
 
 returns-3 : tie.Need-returns-3
 unfolding stepAt
-returns-3 c = rw (← (c .before .before .before .before .number-at .ensures .0), le-ltb _ 32 (c .before .before .before .if1 .left), ne-eqb _ 34 (c .before .before .if2 .left), eq-eqb _ 92 (c .before .if3 .taken)) (c .escape-at .ensures)
+returns-3 c = rw (← (c .before .before .before .before .number-at .ensures .0), le-ltb _ 32 (c .before .before .before .if1 .left), ne-eqb _ 34 (c .before .before .if2 .left), eq-eqb _ 92 (c .before .if3 .taken)) (c .rare-at .ensures ∙ rw (eq-eqb _ 92 (c .before .if3 .taken)))
 
 add-t5 : tie.Need-add-t5
 add-t5 c = omega (arith, inside (now (c .before .before .before .before .before .before .args .s)) _ _ (sym (c .before .before .before .before .number-at .ensures .0)) (omega arith))
@@ -34,12 +34,12 @@ returns-4 : tie.Need-returns-4
 unfolding stepAt
 returns-4 c = rw (← (c .before .before .before .before .number-at .ensures .0), le-ltb _ 32 (c .before .before .before .if1 .left), ne-eqb _ 34 (c .before .before .if2 .left), ne-eqb _ 92 (c .before .if3 .left), lt-ltb _ 128 (c .if4 .taken))
 
-sequence-at-requires : tie.Need-sequence-at-requires
-sequence-at-requires c κs = inside (now (c .before .before .before .before .before .before .args .s)) _ _ (sym (c .before .before .before .before .number-at .ensures .0)) (omega arith)
+rare-at-requires-2 : tie.Need-rare-at-requires-2
+rare-at-requires-2 c κs = inside (now (c .before .before .before .before .before .before .args .s)) _ _ (sym (c .before .before .before .before .number-at .ensures .0)) (omega arith)
 
 returns-5 : tie.Need-returns-5
 unfolding stepAt
-returns-5 c = rw (← (c .before .before .before .before .before .number-at .ensures .0), le-ltb _ 32 (c .before .before .before .before .if1 .left), ne-eqb _ 34 (c .before .before .before .if2 .left), ne-eqb _ 92 (c .before .before .if3 .left), le-ltb _ 128 (c .before .if4 .left)) (c .sequence-at .ensures)
+returns-5 c = rw (← (c .before .before .before .before .before .number-at .ensures .0), le-ltb _ 32 (c .before .before .before .before .if1 .left), ne-eqb _ 34 (c .before .before .before .if2 .left), ne-eqb _ 92 (c .before .before .if3 .left), le-ltb _ 128 (c .before .if4 .left)) (c .rare-at2 .ensures ∙ rw (ne-eqb _ 92 (c .before .before .if3 .left)))
 
 pub step-at-spec : {M : Type 1} → statement M
 step-at-spec =
@@ -48,9 +48,9 @@ step-at-spec =
     number-at-requires
     returns
     returns-2
-    escape-at-requires
+    rare-at-requires
     returns-3
     add-t5
     returns-4
-    sequence-at-requires
+    rare-at-requires-2
     returns-5)

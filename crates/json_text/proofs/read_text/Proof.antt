@@ -1,13 +1,14 @@
--- `json_text::read_text` meets its contract: what is left of the string at the loop's head reads as the whole does.
-use mathlib.Core.Path.{_≡_, refl, sym, ap, _∙_}
+-- `json_text::read_text` meets its contract: what is left of the string at the loop's head, and behind the run from there on,
+-- reads as the whole does.
 use Prim.Native.Nat.{ℕ, _-_, _<_}
+use mathlib.Core.Path.{_≡_, refl, sym, ap, _∙_}
 use native.Mathlib.Omega.{arith}
 use borrow.Author.Needs.{needs}
 use lib.ListN.{length}
 use lib.Dec.{lit<}
 use denote.Ref.{now}
 use Rattle.json_bytes.proofs.Laws.{inside}
-use Rattle.json_text.proofs.Laws.{Left, opened, unopened, take-char, take-close, take-bad, char-after, close-inside}
+use Rattle.json_text.proofs.Laws.{Left, opened, unopened, take-char, take-close, take-bad, char-after, close-inside, along-run}
 use Rattle.json_text.proofs.read_text.Statement.{statement}
 use Rattle.json_text.proofs.read_text.Tie as tie
 
@@ -29,11 +30,17 @@ add-i c = omega (arith, inside (now (c .before .before .before .args .s)) _ 34 (
 loop-holds : tie.Need-loop-holds Inv-loop μ-loop
 loop-holds c = opened _ _ _ (inside (now (c .before .before .before .args .s)) _ 34 (sym (c .before .byte-at .ensures) ∙ c .if1 .left) (lit< tt)) (sym (c .before .byte-at .ensures) ∙ c .if1 .left)
 
+run-end-requires : tie.Need-run-end-requires Inv-loop μ-loop
+run-end-requires c κs = search needs
+
 step-at-requires : tie.Need-step-at-requires Inv-loop μ-loop
 step-at-requires c κs = search needs
 
 enum-known-code : tie.Need-enum-known-code Inv-loop μ-loop
 enum-known-code c = search needs
+
+is-edge-behind-requires : tie.Need-is-edge-behind-requires Inv-loop μ-loop
+is-edge-behind-requires c κs = search needs
 
 is-edge-requires : tie.Need-is-edge-requires Inv-loop μ-loop
 is-edge-requires c κs = search needs
@@ -45,25 +52,25 @@ first-of-requires : tie.Need-first-of-requires Inv-loop μ-loop
 first-of-requires c κs = search needs
 
 loop-less : tie.Need-loop-less Inv-loop μ-loop
-loop-less c = omega (arith, char-after _ _ _ _ _ _ (c .before .before .before .before .before .before .before .loop .inv) _ _ (sym (c .before .before .before .before .before .before .step-at .ensures) ∙ c .before .before .before .before .code .given .1))
+loop-less c = omega (arith, c .before .before .before .before .before .before .before .before .run-end .ensures .onwards, char-after _ _ _ _ _ _ (along-run _ _ _ _ _ _ _ (c .before .before .before .before .before .before .before .before .before .loop .inv) (c .before .before .before .before .before .before .before .before .run-end .ensures)) _ _ (sym (c .before .before .before .before .before .before .before .step-at .ensures) ∙ c .before .before .before .before .before .code .given .1))
 
 loop-again : tie.Need-loop-again Inv-loop μ-loop
-loop-again c = take-char _ _ _ _ _ _ (c .before .before .before .before .before .before .before .loop .inv) _ _ _ _ _ (sym (c .before .before .before .before .before .before .step-at .ensures) ∙ c .before .before .before .before .code .given .1) (c .before .before .is-edge .ensures) (c .before .rule-of .ensures) (c .first-of .ensures)
+loop-again c = take-char _ _ _ _ _ _ (along-run _ _ _ _ _ _ _ (c .before .before .before .before .before .before .before .before .before .loop .inv) (c .before .before .before .before .before .before .before .before .run-end .ensures)) _ _ _ _ _ (sym (c .before .before .before .before .before .before .before .step-at .ensures) ∙ c .before .before .before .before .before .code .given .1) (rw (c .before .before .before .is-edge-behind .ensures) at (c .before .before .is-edge .ensures)) (c .before .rule-of .ensures) (c .first-of .ensures)
 
 enum-told : tie.Need-enum-told Inv-loop μ-loop
 enum-told c = search needs
 
-add-t17 : tie.Need-add-t17 Inv-loop μ-loop
-add-t17 c = omega (arith, close-inside _ _ _ _ _ _ (c .before .before .before .loop .inv) (sym (c .before .before .step-at .ensures) ∙ c .enum-told .given .1))
+add-t19 : tie.Need-add-t19 Inv-loop μ-loop
+add-t19 c = omega (arith, close-inside _ _ _ _ _ _ (along-run _ _ _ _ _ _ _ (c .before .before .before .before .loop .inv) (c .before .before .before .run-end .ensures)) (sym (c .before .before .step-at .ensures) ∙ c .enum-told .given .1))
 
 returns-2 : tie.Need-returns-2 Inv-loop μ-loop
-returns-2 c = sym (take-close _ _ _ _ _ _ (c .before .before .before .loop .inv) (sym (c .before .before .step-at .ensures) ∙ c .enum-told .given .1))
+returns-2 c = sym (take-close _ _ _ _ _ _ (along-run _ _ _ _ _ _ _ (c .before .before .before .before .loop .inv) (c .before .before .before .run-end .ensures)) (sym (c .before .before .step-at .ensures) ∙ c .enum-told .given .1))
 
 enum-known-kind : tie.Need-enum-known-kind Inv-loop μ-loop
 enum-known-kind c = search needs
 
 returns-3 : tie.Need-returns-3 Inv-loop μ-loop
-returns-3 c = sym (take-bad _ _ _ _ _ _ (c .before .before .before .before .loop .inv) _ _ (sym (c .before .before .before .step-at .ensures) ∙ c .before .kind .given .1))
+returns-3 c = sym (take-bad _ _ _ _ _ _ (along-run _ _ _ _ _ _ _ (c .before .before .before .before .before .loop .inv) (c .before .before .before .before .run-end .ensures)) _ _ (sym (c .before .before .before .step-at .ensures) ∙ c .before .kind .given .1))
 
 pub read-text-spec : {M : Type 1} → statement M
 read-text-spec =
@@ -75,15 +82,17 @@ read-text-spec =
     returns
     add-i
     loop-holds
+    run-end-requires
     step-at-requires
     enum-known-code
+    is-edge-behind-requires
     is-edge-requires
     rule-of-requires
     first-of-requires
     loop-less
     loop-again
     enum-told
-    add-t17
+    add-t19
     returns-2
     enum-known-kind
     returns-3)

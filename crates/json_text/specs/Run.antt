@@ -1,0 +1,20 @@
+-- For the code's sake alone: a run of bytes that are characters by themselves and break no rule of any type.
+use Prim.Native.Nat.{ℕ, _≤_, _<_}
+use mathlib.Core.Path.{_≡_}
+use mathlib.Core.Bool.{Bool, true, false, cond}
+use mathlib.Core.List.{List}
+use lib.Dec.{ltb, eqb}
+use Rattle.json_bytes.specs.Reads.{byteAt, within}
+
+-- U+0021 to U+007E but the quote and the backslash
+unfoldable pub isGraphic : ℕ → Bool
+isGraphic b = cond (eqb b 34) false (cond (eqb b 92) false (within 0x21 0x7E b))
+
+-- such bytes stand from i up to j
+pub record Run (s : List ℕ) (i j : ℕ) : Type 0 where
+  pub onwards : i ≤ j
+  pub graphic : (k : ℕ) → i ≤ k → k < j → isGraphic (byteAt s k) ≡ true
+
+-- behind one of them there is no edge
+unfoldable pub edgeBehind : Bool → ℕ → ℕ → Bool
+edgeBehind edge i j = cond (ltb i j) false edge
