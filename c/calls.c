@@ -99,29 +99,36 @@ static void wrong_lists(void) {
     size_t size[1] = {77}, place[2] = {5, 6};
     uint32_t present[1] = {3};
     hand_over();
-    expect("judge, 80 kinds", 100, knotsaddle_judge(bundle, 164, LISTS(80, 81, 81), work, TOO_SHORT));
-    expect("judge, 80 places", 100, knotsaddle_judge(bundle, 164, LISTS(81, 80, 81), work, TOO_SHORT));
-    expect("judge, 80 companions", 100, knotsaddle_judge(bundle, 0, LISTS(81, 81, 80), work, KNOTSADDLE_WORKSPACE));
-    expect("try, 80 kinds", 100, knotsaddle_try(bundle, 164, LISTS(80, 81, 81), CHANGE(2), size, 1, work, TOO_SHORT));
-    expect("try, 80 places", 100, knotsaddle_try(bundle, 164, LISTS(81, 80, 81), CHANGE(2), size, 1, work, TOO_SHORT));
-    expect("try, 80 companions", 100, knotsaddle_try(bundle, 164, LISTS(81, 81, 80), CHANGE(2), size, 1, work, TOO_SHORT));
-    expect("try, no list for the length", 100, knotsaddle_try(bundle, 164, LISTS(81, 81, 81), CHANGE(2), size, 0, work, TOO_SHORT));
+    expect("judge, 80 kinds", 100, knotsaddle_judge(KNOTSADDLE_SCHEDULE, bundle, 164, LISTS(80, 81, 81), work, TOO_SHORT));
+    expect("judge, 80 places", 100, knotsaddle_judge(KNOTSADDLE_SCHEDULE, bundle, 164, LISTS(81, 80, 81), work, TOO_SHORT));
+    expect("judge, 80 companions", 100,
+           knotsaddle_judge(KNOTSADDLE_SCHEDULE, bundle, 0, LISTS(81, 81, 80), work, KNOTSADDLE_WORKSPACE));
+    expect("try, 80 kinds", 100,
+           knotsaddle_try(KNOTSADDLE_SCHEDULE, bundle, 164, LISTS(80, 81, 81), CHANGE(2), size, 1, work, TOO_SHORT));
+    expect("try, 80 places", 100,
+           knotsaddle_try(KNOTSADDLE_SCHEDULE, bundle, 164, LISTS(81, 80, 81), CHANGE(2), size, 1, work, TOO_SHORT));
+    expect("try, 80 companions", 100,
+           knotsaddle_try(KNOTSADDLE_SCHEDULE, bundle, 164, LISTS(81, 81, 80), CHANGE(2), size, 1, work, TOO_SHORT));
+    expect("try, no list for the length", 100,
+           knotsaddle_try(KNOTSADDLE_SCHEDULE, bundle, 164, LISTS(81, 81, 81), CHANGE(2), size, 0, work, TOO_SHORT));
     expect("make, 80 kinds", 100,
-           knotsaddle_make(bundle, 164, LISTS(80, 81, 81), CHANGE(2), out, 1000, size, 1, work, TOO_SHORT));
+           knotsaddle_make(KNOTSADDLE_SCHEDULE, bundle, 164, LISTS(80, 81, 81), CHANGE(2), out, 1000, size, 1, work, TOO_SHORT));
     expect("make, 80 places", 100,
-           knotsaddle_make(bundle, 164, LISTS(81, 80, 81), CHANGE(2), out, 1000, size, 1, work, TOO_SHORT));
+           knotsaddle_make(KNOTSADDLE_SCHEDULE, bundle, 164, LISTS(81, 80, 81), CHANGE(2), out, 1000, size, 1, work, TOO_SHORT));
     expect("make, 80 companions", 100,
-           knotsaddle_make(bundle, 164, LISTS(81, 81, 80), CHANGE(2), out, 1000, size, 1, work, TOO_SHORT));
+           knotsaddle_make(KNOTSADDLE_SCHEDULE, bundle, 164, LISTS(81, 81, 80), CHANGE(2), out, 1000, size, 1, work, TOO_SHORT));
     expect("make, no list for the length", 100,
-           knotsaddle_make(bundle, 164, LISTS(81, 81, 81), CHANGE(2), out, 1000, size, 0, work, TOO_SHORT));
-    expect("fresh, 80 kinds", 100, knotsaddle_fresh(LISTS(80, 81, 81)));
-    expect("fresh, 80 places", 100, knotsaddle_fresh(LISTS(81, 80, 81)));
-    expect("fresh, 80 companions", 100, knotsaddle_fresh(LISTS(81, 81, 80)));
-    expect("report, 80 kinds", 0, knotsaddle_report(0, LISTS(80, 81, 81), out, 1000));
-    expect("report, 80 companions", 0, knotsaddle_report(3, LISTS(81, 81, 80), large, sizeof large));
-    expect("report, 80 of each", 0, knotsaddle_report(0, LISTS(80, 80, 80), large, sizeof large));
-    expect("file, a list of 2 for whether it is there", 100, knotsaddle_file(bundle, 164, 19, present, 2, place, 2));
-    expect("file, a list of 1 for the place", 100, knotsaddle_file(bundle, 0, 19, present, 1, place, 1));
+           knotsaddle_make(KNOTSADDLE_SCHEDULE, bundle, 164, LISTS(81, 81, 81), CHANGE(2), out, 1000, size, 0, work, TOO_SHORT));
+    expect("fresh, 80 kinds", 100, knotsaddle_fresh(KNOTSADDLE_SCHEDULE, LISTS(80, 81, 81)));
+    expect("fresh, 80 places", 100, knotsaddle_fresh(KNOTSADDLE_SCHEDULE, LISTS(81, 80, 81)));
+    expect("fresh, 80 companions", 100, knotsaddle_fresh(KNOTSADDLE_SCHEDULE, LISTS(81, 81, 80)));
+    expect("report, 80 kinds", 0, knotsaddle_report(KNOTSADDLE_SCHEDULE, 0, LISTS(80, 81, 81), out, 1000));
+    expect("report, 80 companions", 0, knotsaddle_report(KNOTSADDLE_SCHEDULE, 3, LISTS(81, 81, 80), large, sizeof large));
+    expect("report, 80 of each", 0, knotsaddle_report(KNOTSADDLE_SCHEDULE, 0, LISTS(80, 80, 80), large, sizeof large));
+    expect("file, a list of 2 for whether it is there", 100,
+           knotsaddle_file(KNOTSADDLE_SCHEDULE, bundle, 164, 19, present, 2, place, 2));
+    expect("file, a list of 1 for the place", 100,
+           knotsaddle_file(KNOTSADDLE_SCHEDULE, bundle, 0, 19, present, 1, place, 1));
     expect("the lengths that they write", 77, size[0]);
     expect("the places that they write", 3 + 5 + 6, present[0] + place[0] + place[1]);
     expect("what else they write", 0, written());
@@ -133,20 +140,23 @@ static void refused_judgements(void) {
     uint8_t other[KNOTSADDLE_EMPTY_BUNDLE];
     memcpy(other, bundle, sizeof other);
     hand_over();
-    expect("judge, workspace too short", 14, knotsaddle_judge_in(bundle, 0, &board, work, TOO_SHORT));
+    expect("judge, workspace too short", 14, knotsaddle_judge_in(KNOTSADDLE_SCHEDULE, bundle, 0, &board, work, TOO_SHORT));
     expect("its marks other than 'not judged'", 0, other_marks(KNOTSADDLE_NOT_JUDGED, 0, 0));
-    expect("judge, no workspace", 14, knotsaddle_judge_in(bundle, 0, &board, NULL, 0));
+    expect("judge, no workspace", 14, knotsaddle_judge_in(KNOTSADDLE_SCHEDULE, bundle, 0, &board, NULL, 0));
     hand_over();
-    expect("judge, bundle of 163 bytes", 1, knotsaddle_judge_in(bundle, 163, &board, work, KNOTSADDLE_WORKSPACE));
+    expect("judge, bundle of 163 bytes", 1,
+           knotsaddle_judge_in(KNOTSADDLE_SCHEDULE, bundle, 163, &board, work, KNOTSADDLE_WORKSPACE));
     expect("its marks other than 'not judged'", 0, other_marks(KNOTSADDLE_NOT_JUDGED, 0, 0));
     hand_over();
-    expect("judge, null for no bundle", 1, knotsaddle_judge_in(NULL, 0, &board, work, KNOTSADDLE_WORKSPACE));
+    expect("judge, null for no bundle", 1,
+           knotsaddle_judge_in(KNOTSADDLE_SCHEDULE, NULL, 0, &board, work, KNOTSADDLE_WORKSPACE));
     expect("its marks other than 'not judged'", 0, other_marks(KNOTSADDLE_NOT_JUDGED, 0, 0));
     other[0] = 21;
-    expect("judge, count 21", 2, knotsaddle_judge_in(other, 164, &board, work, KNOTSADDLE_WORKSPACE));
+    expect("judge, count 21", 2, knotsaddle_judge_in(KNOTSADDLE_SCHEDULE, other, 164, &board, work, KNOTSADDLE_WORKSPACE));
     other[0] = 20;
     other[4] = 165;
-    expect("judge, an offset off by one", 3, knotsaddle_judge_in(other, 164, &board, work, KNOTSADDLE_WORKSPACE));
+    expect("judge, an offset off by one", 3,
+           knotsaddle_judge_in(KNOTSADDLE_SCHEDULE, other, 164, &board, work, KNOTSADDLE_WORKSPACE));
     hand_board();
     expect("what they write to the output and the workspace", 0, written());
 }
@@ -187,7 +197,7 @@ static void no_workspace_to_get(void) {
     size_t size = 77;
     hand_over();
     no_memory = 1;
-    expect("judge without memory", KNOTSADDLE_NO_MEMORY, knotsaddle_judge_bundle(bundle, 0, &board));
+    expect("judge without memory", KNOTSADDLE_NO_MEMORY, knotsaddle_judge_bundle(KNOTSADDLE_SCHEDULE, bundle, 0, &board));
     expect("try without memory", KNOTSADDLE_NO_MEMORY,
            knotsaddle_try_change(bundle, 164, &board, knotsaddle_withdraw(20), &size));
     expect("make without memory", KNOTSADDLE_NO_MEMORY,
@@ -202,7 +212,7 @@ static void no_workspace_to_get(void) {
 static void small_cases(void) {
     size_t size = 77, made = 77;
     hand_over();
-    expect("judge", 0, knotsaddle_judge_in(bundle, 164, &board, work, KNOTSADDLE_WORKSPACE + 1));
+    expect("judge", 0, knotsaddle_judge_in(KNOTSADDLE_SCHEDULE, bundle, 164, &board, work, KNOTSADDLE_WORKSPACE + 1));
     expect("its mark 0", 21, board.kinds[0]);
     expect("its mark 37", 2, board.kinds[37]);
     expect("its mark 80", 0, board.kinds[80]);
@@ -218,7 +228,8 @@ static void small_cases(void) {
     expect("try", 0, try_lent(knotsaddle_put(19, hello, 5), &size, KNOTSADDLE_WORKSPACE));
     expect("the length that it would have", HELLO_AT, size);
     expect("try, without asking for the length", 0, try_lent(knotsaddle_put(19, hello, 5), NULL, KNOTSADDLE_WORKSPACE));
-    expect("make, output just long enough", 0, make_lent(knotsaddle_put(19, hello, 5), HELLO_AT, &made, KNOTSADDLE_WORKSPACE));
+    expect("make, output just long enough", 0,
+           make_lent(knotsaddle_put(19, hello, 5), HELLO_AT, &made, KNOTSADDLE_WORKSPACE));
 }
 
 /* A withdrawal has no bytes: null for them, and any bytes that are not to be read. */
@@ -252,7 +263,7 @@ static void companions(void) {
                                 "{\"ID\":\"r1\",\"Name\":\"Rigger\",\"ElementOfCostID\":\"LABOR\"}]";
     static const char unknown[] = "[{\"ID\":\"R1\",\"Name\":\"Fitter\",\"ElementOfCostID\":\"LABOR\"},{\"id\":1}]";
     static const char absent[] = "[{}]";
-    knotsaddle_fresh_board(&board);
+    knotsaddle_fresh_board(KNOTSADDLE_SCHEDULE, &board);
     expect("a key twice", 0, try_resources(twice));
     expect("its kind", 1, board.kinds[32]);
     expect("its place", 2, board.places[32]);
@@ -271,24 +282,25 @@ static void asking(void) {
     size_t place[2] = {5, 6}, size = 0;
     knotsaddle_part part = {3, NULL, 6};
     knotsaddle_make_change(bundle, 164, &board, knotsaddle_put(19, hello, 5), out, 1000, &size);
-    expect("file 20", 4, knotsaddle_file(out, HELLO_AT, 20, present, 1, place, 2));
-    expect("a file of no bundle", 1, knotsaddle_file(out, 163, 19, present, 1, place, 2));
-    expect("a file of a bundle that ends early", 3, knotsaddle_file(out, HELLO_AT - 1, 19, present, 1, place, 2));
+    expect("file 20", 4, knotsaddle_file(KNOTSADDLE_SCHEDULE, out, HELLO_AT, 20, present, 1, place, 2));
+    expect("a file of no bundle", 1, knotsaddle_file(KNOTSADDLE_SCHEDULE, out, 163, 19, present, 1, place, 2));
+    expect("a file of a bundle that ends early", 3,
+           knotsaddle_file(KNOTSADDLE_SCHEDULE, out, HELLO_AT - 1, 19, present, 1, place, 2));
     expect("the places that they write", 3 + 5 + 6, present[0] + place[0] + place[1]);
-    expect("file 20 as a part", 4, knotsaddle_file_part(out, HELLO_AT, 20, &part));
-    expect("null for no bundle", 1, knotsaddle_file_part(NULL, 0, 19, &part));
+    expect("file 20 as a part", 4, knotsaddle_file_part(KNOTSADDLE_SCHEDULE, out, HELLO_AT, 20, &part));
+    expect("null for no bundle", 1, knotsaddle_file_part(KNOTSADDLE_SCHEDULE, NULL, 0, 19, &part));
     expect("the part that they write", 3 + 6, part.present + part.length);
-    expect("a file that is there", 0, knotsaddle_file(out, HELLO_AT, 19, present, 1, place, 2));
+    expect("a file that is there", 0, knotsaddle_file(KNOTSADDLE_SCHEDULE, out, HELLO_AT, 19, present, 1, place, 2));
     expect("that it is", 1, present[0]);
     expect("its start", KNOTSADDLE_EMPTY_BUNDLE, place[0]);
     expect("its length", 5, place[1]);
-    expect("it as a part", 0, knotsaddle_file_part(out, HELLO_AT, 19, &part));
+    expect("it as a part", 0, knotsaddle_file_part(KNOTSADDLE_SCHEDULE, out, HELLO_AT, 19, &part));
     expect("that it is there", 1, part.present);
     expect("its bytes", 0, part.length != 5 || memcmp(part.bytes, hello, 5) != 0);
-    expect("an omitted file", 0, knotsaddle_file(out, HELLO_AT, 18, present, 1, place, 2));
+    expect("an omitted file", 0, knotsaddle_file(KNOTSADDLE_SCHEDULE, out, HELLO_AT, 18, present, 1, place, 2));
     expect("that it is", 0, present[0]);
     expect("its start and length", 0, place[0] + place[1]);
-    expect("it as a part", 0, knotsaddle_file_part(out, HELLO_AT, 18, &part));
+    expect("it as a part", 0, knotsaddle_file_part(KNOTSADDLE_SCHEDULE, out, HELLO_AT, 18, &part));
     expect("that it is omitted", 0, part.present + part.length);
 }
 
@@ -296,10 +308,10 @@ static void empty_bundle(void) {
     uint8_t made[KNOTSADDLE_EMPTY_BUNDLE + 1];
     size_t other = 0;
     memset(made, 9, sizeof made);
-    expect("the bundle with no files, room for 163 bytes", 0, knotsaddle_empty(made, 163));
+    expect("the bundle with no files, room for 163 bytes", 0, knotsaddle_empty(KNOTSADDLE_SCHEDULE, made, 163));
     for (size_t i = 0; i < sizeof made; i++) other += made[i] != 9;
     expect("what is written", 0, other);
-    expect("the bundle with no files", KNOTSADDLE_EMPTY_BUNDLE, knotsaddle_empty(made, sizeof made));
+    expect("the bundle with no files", KNOTSADDLE_EMPTY_BUNDLE, knotsaddle_empty(KNOTSADDLE_SCHEDULE, made, sizeof made));
     expect("its bytes", 0, memcmp(made, bundle, sizeof bundle) != 0);
     expect("the byte behind it", 9, made[KNOTSADDLE_EMPTY_BUNDLE]);
 }
@@ -310,7 +322,7 @@ static void example_of_the_layout(void) {
                                       0xa6, 0, 0, 0, 4, 0, 0, 0, '[', ']', '[', '{', '}', ']'};
     uint8_t first[KNOTSADDLE_EMPTY_BUNDLE + 2];
     size_t size = 0;
-    knotsaddle_fresh_board(&board);
+    knotsaddle_fresh_board(KNOTSADDLE_SCHEDULE, &board);
     knotsaddle_make_change(bundle, 164, &board, knotsaddle_put(16, (const uint8_t *)"[]", 2), first, sizeof first, &size);
     knotsaddle_make_change(first, size, &board, knotsaddle_put(19, (const uint8_t *)"[{}]", 4), out, 1000, &size);
     expect("the example's length", 170, size);
@@ -320,7 +332,7 @@ static void example_of_the_layout(void) {
 
 static void boards(void) {
     hand_over();
-    knotsaddle_fresh_board(&board);
+    knotsaddle_fresh_board(KNOTSADDLE_SCHEDULE, &board);
     expect("a fresh board's marks other than 'not judged'", 0, other_marks(KNOTSADDLE_NOT_JUDGED, 0, 0));
     expect("its faults", 81, knotsaddle_faults(board.kinds, 81));
     expect("a fresh board is accepted", 0, (size_t)knotsaddle_is_accepted(&board));
@@ -357,7 +369,7 @@ static void expect_reason(const char *what, size_t mark, knotsaddle_told expecte
     size_t numbers[KNOTSADDLE_TOLD_NUMBERS], length = strlen(value);
     memset(&told, 0xff, sizeof told);
     memset(numbers, 0xff, sizeof numbers);
-    expect(what, 0, knotsaddle_reason_of(faulty, faulty_length, mark, &told));
+    expect(what, 0, knotsaddle_reason_of(KNOTSADDLE_SCHEDULE, faulty, faulty_length, mark, &told));
     expect("its answer", expected.answer, told.answer);
     expect("its kind", expected.kind, told.kind);
     expect("its place", expected.place, told.place);
@@ -367,7 +379,8 @@ static void expect_reason(const char *what, size_t mark, knotsaddle_told expecte
     expect("its value's length", length, told.length);
     expect("its value", 0, told.length != length || memcmp(told.value, value, length) != 0);
     expect("the file searched", expected.searched, told.searched);
-    expect("its numbers", 0, knotsaddle_reason(faulty, faulty_length, mark, numbers, 9, work, KNOTSADDLE_WORKSPACE));
+    expect("its numbers", 0,
+           knotsaddle_reason(KNOTSADDLE_SCHEDULE, faulty, faulty_length, mark, numbers, 9, work, KNOTSADDLE_WORKSPACE));
     expect("those of the mark", 0,
            numbers[0] != told.answer || numbers[1] != told.kind || numbers[2] != told.place || numbers[3] != told.companion);
     expect("those of the field", 0, numbers[4] != told.file || numbers[5] != told.field || numbers[8] != told.searched);
@@ -378,10 +391,10 @@ static void expect_reason(const char *what, size_t mark, knotsaddle_told expecte
 static void reasons_and_board(void) {
     size_t other = 0;
     knotsaddle_told told;
-    knotsaddle_judge_bundle(faulty, faulty_length, &board);
+    knotsaddle_judge_bundle(KNOTSADDLE_SCHEDULE, faulty, faulty_length, &board);
     for (size_t m = 0; m < KNOTSADDLE_MARKS; m++) {
         memset(&told, 0xff, sizeof told);
-        knotsaddle_reason_in(faulty, faulty_length, m, &told, work, KNOTSADDLE_WORKSPACE);
+        knotsaddle_reason_in(KNOTSADDLE_SCHEDULE, faulty, faulty_length, m, &told, work, KNOTSADDLE_WORKSPACE);
         other += told.kind != board.kinds[m] || told.place != board.places[m] || told.companion != board.companions[m];
     }
     expect("reasons with another mark than the board's", 0, other);
@@ -390,7 +403,7 @@ static void reasons_and_board(void) {
 static void reasons(void) {
     knotsaddle_told holds = {0}, not_judged = {0}, own_mark = {0}, broken = {0}, missing = {0};
     char name[KNOTSADDLE_NAME_ROOM];
-    faulty_length = knotsaddle_empty(faulty, sizeof faulty);
+    faulty_length = knotsaddle_empty(KNOTSADDLE_SCHEDULE, faulty, sizeof faulty);
     put_faulty(7, workshifts);
     put_faulty(8, exceptions);
     put_faulty(16, resources);
@@ -423,7 +436,7 @@ static void reasons(void) {
     missing.file = 7;
     missing.searched = 6;
     expect_reason("a missing target", 49, missing, "\"C1\"");
-    expect("the name of the deciding field", 15, knotsaddle_name_of_field(7, 2, name));
+    expect("the name of the deciding field", 15, knotsaddle_name_of_field(KNOTSADDLE_SCHEDULE, 7, 2, name));
     expect_text("its text", "SundayWorkHours", name);
     reasons_and_board();
 }
@@ -438,21 +451,28 @@ static void refused_reasons(void) {
     memcpy(count_21, bundle, sizeof count_21);
     count_21[0] = 21;
     hand_over();
-    expect("reason, 8 numbers", 100, knotsaddle_reason(bundle, 0, 81, numbers, 8, work, TOO_SHORT));
-    expect("reason, 10 numbers", 100, knotsaddle_reason(bundle, 164, 0, numbers, 10, work, KNOTSADDLE_WORKSPACE));
-    expect("reason, workspace too short", 14, knotsaddle_reason(bundle, 0, 81, numbers, 9, work, TOO_SHORT));
-    expect("reason, no workspace", 14, knotsaddle_reason_in(bundle, 164, 0, &told, NULL, 0));
-    expect("reason, null for no bundle", 1, knotsaddle_reason_in(NULL, 0, 81, &told, work, KNOTSADDLE_WORKSPACE));
-    expect("reason, count 21", 2, knotsaddle_reason_in(count_21, 164, 81, &told, work, KNOTSADDLE_WORKSPACE));
-    expect("reason, a bundle that is too long", 3, knotsaddle_reason_in(faulty, faulty_length + 1, 81, &told, work, KNOTSADDLE_WORKSPACE));
-    expect("reason, mark 81", 7, knotsaddle_reason(bundle, 164, 81, numbers, 9, work, KNOTSADDLE_WORKSPACE));
-    expect("reason, mark 81 by itself", 7, knotsaddle_reason_of(bundle, 164, 81, &told));
+    expect("reason, 8 numbers", 100, knotsaddle_reason(KNOTSADDLE_SCHEDULE, bundle, 0, 81, numbers, 8, work, TOO_SHORT));
+    expect("reason, 10 numbers", 100,
+           knotsaddle_reason(KNOTSADDLE_SCHEDULE, bundle, 164, 0, numbers, 10, work, KNOTSADDLE_WORKSPACE));
+    expect("reason, workspace too short", 14,
+           knotsaddle_reason(KNOTSADDLE_SCHEDULE, bundle, 0, 81, numbers, 9, work, TOO_SHORT));
+    expect("reason, no workspace", 14, knotsaddle_reason_in(KNOTSADDLE_SCHEDULE, bundle, 164, 0, &told, NULL, 0));
+    expect("reason, null for no bundle", 1,
+           knotsaddle_reason_in(KNOTSADDLE_SCHEDULE, NULL, 0, 81, &told, work, KNOTSADDLE_WORKSPACE));
+    expect("reason, count 21", 2,
+           knotsaddle_reason_in(KNOTSADDLE_SCHEDULE, count_21, 164, 81, &told, work, KNOTSADDLE_WORKSPACE));
+    expect("reason, a bundle that is too long", 3,
+           knotsaddle_reason_in(KNOTSADDLE_SCHEDULE, faulty, faulty_length + 1, 81, &told, work, KNOTSADDLE_WORKSPACE));
+    expect("reason, mark 81", 7,
+           knotsaddle_reason(KNOTSADDLE_SCHEDULE, bundle, 164, 81, numbers, 9, work, KNOTSADDLE_WORKSPACE));
+    expect("reason, mark 81 by itself", 7, knotsaddle_reason_of(KNOTSADDLE_SCHEDULE, bundle, 164, 81, &told));
     no_memory = 1;
-    expect("reason without memory", KNOTSADDLE_NO_MEMORY, knotsaddle_reason_of(bundle, 164, 0, &told));
+    expect("reason without memory", KNOTSADDLE_NO_MEMORY, knotsaddle_reason_of(KNOTSADDLE_SCHEDULE, bundle, 164, 0, &told));
     no_memory = 0;
     for (size_t i = 0; i < 10; i++) other += numbers[i] != SIZE_MAX;
     expect("the numbers that they write", 0, other);
-    expect("the reason that they write", 0, told.answer != UINT32_MAX || told.place != SIZE_MAX || told.searched != SIZE_MAX);
+    expect("the reason that they write", 0,
+           told.answer != UINT32_MAX || told.place != SIZE_MAX || told.searched != SIZE_MAX);
     expect("what else they write", 0, written());
 }
 
@@ -464,13 +484,14 @@ static void reports(void) {
         "marks 81\n0 21 0 0\n1 21 0 0\n3 21 0 0\n36 2 0 0\n37 2 0 0\n65 2 0 0\n66 2 0 0\nrefused 7\n";
     memset(text, 9, sizeof text);
     expect("report, room for one byte less", 0,
-           knotsaddle_report(3, LISTS(81, 81, 81), (uint8_t *)text, KNOTSADDLE_REPORT_ROOM - 1));
+           knotsaddle_report(KNOTSADDLE_SCHEDULE, 3, LISTS(81, 81, 81), (uint8_t *)text, 6143));
     expect("what is written", 9, (size_t)text[0]);
-    expect("report of a refusal", 9, knotsaddle_report(3, LISTS(81, 81, 81), (uint8_t *)text, KNOTSADDLE_REPORT_ROOM));
+    expect("report of a refusal", 9,
+           knotsaddle_report(KNOTSADDLE_SCHEDULE, 3, LISTS(81, 81, 81), (uint8_t *)text, 6144));
     expect("the byte behind it", 9, (size_t)text[9]);
     expect("report of a refusal as a text", 9, knotsaddle_report_text(3, &board, text));
     expect_text("its text", "bundle 3\n", text);
-    knotsaddle_judge_bundle(bundle, 164, &board);
+    knotsaddle_judge_bundle(KNOTSADDLE_SCHEDULE, bundle, 164, &board);
     expect("report of a board", strlen(omitted), knotsaddle_report_text(0, &board, text));
     expect_text("its text", omitted, text);
     for (size_t m = 0; m < KNOTSADDLE_MARKS; m++) {
@@ -484,19 +505,19 @@ static void names(void) {
     char name[KNOTSADDLE_NAME_ROOM];
     size_t longest = 0;
     memset(name, 9, sizeof name);
-    expect("the name of file 9 without room", 0, knotsaddle_file_name(9, (uint8_t *)name, 9));
+    expect("the name of file 9 without room", 0, knotsaddle_file_name(KNOTSADDLE_SCHEDULE, 9, (uint8_t *)name, 9));
     expect("what is written", 9, (size_t)name[0]);
-    expect("the name of file 9", 10, knotsaddle_file_name(9, (uint8_t *)name, 10));
+    expect("the name of file 9", 10, knotsaddle_file_name(KNOTSADDLE_SCHEDULE, 9, (uint8_t *)name, 10));
     expect("the byte behind it", 9, (size_t)name[10]);
-    expect("the name of file 9 as a text", 10, knotsaddle_name_of_file(9, name));
+    expect("the name of file 9 as a text", 10, knotsaddle_name_of_file(KNOTSADDLE_SCHEDULE, 9, name));
     expect_text("its text", "Tasks.json", name);
     for (size_t file = 0; file < KNOTSADDLE_FILES; file++) {
-        size_t length = knotsaddle_name_of_file(file, name);
+        size_t length = knotsaddle_name_of_file(KNOTSADDLE_SCHEDULE, file, name);
         expect("a file without a name", 0, length == 0);
         if (length > longest) longest = length;
     }
     expect("the longest name and its zero byte", KNOTSADDLE_NAME_ROOM, longest + 1);
-    expect("the name of file 20", 0, knotsaddle_name_of_file(20, name));
+    expect("the name of file 20", 0, knotsaddle_name_of_file(KNOTSADDLE_SCHEDULE, 20, name));
     expect_text("its text", "", name);
 }
 
@@ -504,38 +525,167 @@ static void field_names(void) {
     char name[KNOTSADDLE_NAME_ROOM];
     size_t fields = 0, longest = 0, length;
     memset(name, 9, sizeof name);
-    expect("the name of a field without room", 0, knotsaddle_field_name(9, 0, (uint8_t *)name, 1));
-    expect("a field that is none", 0, knotsaddle_field_name(6, 3, (uint8_t *)name, sizeof name));
-    expect("a field of no table", 0, knotsaddle_field_name(0, 0, (uint8_t *)name, sizeof name));
-    expect("a field of file 20", 0, knotsaddle_field_name(20, 0, (uint8_t *)name, sizeof name));
-    expect("a field far out", 0, knotsaddle_field_name(SIZE_MAX, SIZE_MAX, (uint8_t *)name, sizeof name));
+    expect("the name of a field without room", 0, knotsaddle_field_name(KNOTSADDLE_SCHEDULE, 9, 0, (uint8_t *)name, 1));
+    expect("a field that is none", 0, knotsaddle_field_name(KNOTSADDLE_SCHEDULE, 6, 3, (uint8_t *)name, sizeof name));
+    expect("a field of no table", 0, knotsaddle_field_name(KNOTSADDLE_SCHEDULE, 0, 0, (uint8_t *)name, sizeof name));
+    expect("a field of file 20", 0, knotsaddle_field_name(KNOTSADDLE_SCHEDULE, 20, 0, (uint8_t *)name, sizeof name));
+    expect("a field far out", 0,
+           knotsaddle_field_name(KNOTSADDLE_SCHEDULE, SIZE_MAX, SIZE_MAX, (uint8_t *)name, sizeof name));
     expect("what is written", 9, (size_t)name[0]);
-    expect("the name of a field", 2, knotsaddle_field_name(9, 0, (uint8_t *)name, 2));
+    expect("the name of a field", 2, knotsaddle_field_name(KNOTSADDLE_SCHEDULE, 9, 0, (uint8_t *)name, 2));
     expect("the byte behind it", 9, (size_t)name[2]);
     for (size_t file = 0; file < KNOTSADDLE_FILES; file++) {
-        for (size_t field = 0; (length = knotsaddle_name_of_field(file, field, name)) != 0; field++) {
+        for (size_t field = 0; (length = knotsaddle_name_of_field(KNOTSADDLE_SCHEDULE, file, field, name)) != 0; field++) {
             fields++;
             if (length > longest) longest = length;
         }
     }
     expect("fields with a name", 136, fields);
     expect("the longest name", 27, longest);
-    expect("the last field's name", 23, knotsaddle_name_of_field(19, 8, name));
+    expect("the last field's name", 23, knotsaddle_name_of_field(KNOTSADDLE_SCHEDULE, 19, 8, name));
     expect_text("its text", "PhysicalPercentComplete", name);
 }
 
 static void words(void) {
-    static const uint32_t refusals[] = {1, 2, 3, 4, 5, 6, 7, 14, 100, 101, 102};
-    expect_text("mark 0 is about", "FileType.txt: the file itself", knotsaddle_about_mark(0));
-    expect_text("mark 32 is about", "Resources: no two records with the same ID", knotsaddle_about_mark(32));
-    expect_text("mark 80 is about", "TaskOutlineStructure: the parent is a SUMMARY task in Tasks", knotsaddle_about_mark(80));
-    expect_text("mark 81 is about", "", knotsaddle_about_mark(81));
+    static const uint32_t refusals[] = {1, 2, 3, 4, 5, 6, 7, 14, 100, 101, 102, 103};
+    expect_text("mark 0 is about", "FileType.txt: the file itself", knotsaddle_about_mark(KNOTSADDLE_SCHEDULE, 0));
+    expect_text("mark 32 is about", "Resources: no two records with the same ID", knotsaddle_about_mark(KNOTSADDLE_SCHEDULE, 32));
+    expect_text("mark 80 is about", "TaskOutlineStructure: the parent is a SUMMARY task in Tasks",
+                knotsaddle_about_mark(KNOTSADDLE_SCHEDULE, 80));
+    expect_text("mark 81 is about", "", knotsaddle_about_mark(KNOTSADDLE_SCHEDULE, 81));
     for (size_t i = 0; i < sizeof refusals / sizeof refusals[0]; i++) {
         expect("a refusal without words", 0, strlen(knotsaddle_in_words(refusals[i])) == 0);
     }
-    expect_text("4 in words", "the file number is over 19", knotsaddle_in_words(4));
+    expect_text("4 in words", "the file number is over 19, on the contract side over 3", knotsaddle_in_words(4));
     expect_text("0 in words", "", knotsaddle_in_words(0));
     expect_text("8 in words", "", knotsaddle_in_words(8));
+}
+
+/* ---- The baseline profile, and a number that is no gate's */
+
+static void no_gate(void) {
+    size_t size[1] = {77}, place[2] = {5, 6}, numbers[9] = {0};
+    uint32_t present[1] = {3};
+    knotsaddle_board other = {0};
+    hand_over();
+    expect("judge, gate 3", 103, knotsaddle_judge(3, bundle, 0, LISTS(80, 80, 80), work, 0));
+    expect("try, gate 3", 103, knotsaddle_try(3, bundle, 0, LISTS(80, 80, 80), CHANGE(2), size, 0, work, 0));
+    expect("make, gate 3", 103, knotsaddle_make(3, bundle, 0, LISTS(80, 80, 80), CHANGE(2), out, 0, size, 0, work, 0));
+    expect("reason, gate 3", 103, knotsaddle_reason(3, bundle, 0, 99, numbers, 8, work, 0));
+    expect("file, gate 3", 103, knotsaddle_file(3, bundle, 0, 99, present, 2, place, 1));
+    expect("fresh, gate 3", 103, knotsaddle_fresh(3, LISTS(81, 81, 81)));
+    expect("report, gate 3", 0, knotsaddle_report(3, 0, LISTS(81, 81, 81), out, 1000));
+    expect("the bundle with no files, gate 3", 0, knotsaddle_empty(3, out, 1000));
+    expect("the name of a file, gate 3", 0, knotsaddle_file_name(UINT32_MAX, 9, out, 1000));
+    expect("the name of a field, gate 3", 0, knotsaddle_field_name(3, 9, 0, out, 1000));
+    expect("the lengths and places that they write", 77 + 3 + 5 + 6, size[0] + present[0] + place[0] + place[1]);
+    expect("what else they write", 0, written());
+    expect("judge into a board, gate 3", 103, knotsaddle_judge_bundle(3, bundle, 164, &other));
+    expect("that board is accepted", 0, (size_t)knotsaddle_is_accepted(&other));
+    expect("try from it", 103, knotsaddle_try_change(bundle, 164, &other, knotsaddle_withdraw(3), NULL));
+    expect_text("mark 0 of no gate is about", "", knotsaddle_about_mark(3, 0));
+    expect("the marks of no gate", 0, knotsaddle_marks_of(3));
+}
+
+/* An assignment with hours, 0 of them, breaks the profile's mark 84 alone, and no mark of document 01's gate. */
+static void baseline(void) {
+    static const char booked[] = "[{\"ResourceID\":\"R\",\"TaskID\":\"T\",\"Actual_ToDate_Hours\":0}]";
+    static uint8_t made[1000];
+    char text[KNOTSADDLE_REPORT_ROOM];
+    size_t size = 0, others_differ = 0;
+    knotsaddle_board profile, plain;
+    knotsaddle_told told;
+    knotsaddle_change put = knotsaddle_put(19, (const uint8_t *)booked, strlen(booked));
+    expect("81 marks for the profile", 100,
+           knotsaddle_judge(KNOTSADDLE_BASELINE, bundle, 164, LISTS(81, 81, 81), work, KNOTSADDLE_WORKSPACE));
+    expect("85 marks for the profile", 0,
+           knotsaddle_judge(KNOTSADDLE_BASELINE, bundle, 164, LISTS(85, 85, 85), work, KNOTSADDLE_WORKSPACE));
+    expect("85 marks for document 01's gate", 100,
+           knotsaddle_judge(KNOTSADDLE_SCHEDULE, bundle, 164, LISTS(85, 85, 85), work, KNOTSADDLE_WORKSPACE));
+    expect("judge, by the profile", 0, knotsaddle_judge_bundle(KNOTSADDLE_BASELINE, bundle, 164, &profile));
+    expect("make, by the profile", 0, knotsaddle_make_change(bundle, 164, &profile, put, made, sizeof made, &size));
+    expect("its mark 84", 1, profile.kinds[84]);
+    expect("the record of it", 1, profile.places[84]);
+    expect("its mark 81", 0, profile.kinds[81]);
+    expect("judge, by document 01's gate", 0, knotsaddle_judge_bundle(KNOTSADDLE_SCHEDULE, made, size, &plain));
+    for (size_t m = 0; m < KNOTSADDLE_MARKS; m++) {
+        others_differ += profile.kinds[m] != plain.kinds[m] || profile.places[m] != plain.places[m] ||
+                         profile.companions[m] != plain.companions[m];
+    }
+    expect("marks 0 to 80 that differ", 0, others_differ);
+    expect("the reason of mark 84", 0, knotsaddle_reason_of(KNOTSADDLE_BASELINE, made, size, 84, &told));
+    expect("its answer", KNOTSADDLE_TOLD_BROKEN, told.answer);
+    expect("its value", 0, told.length != 1 || *told.value != '0');
+    expect("the name of its field", 19, knotsaddle_name_of_field(KNOTSADDLE_BASELINE, told.file, told.field, text));
+    expect_text("its text", "Actual_ToDate_Hours", text);
+    expect("the reason of mark 85", 7, knotsaddle_reason_of(KNOTSADDLE_BASELINE, made, size, 85, &told));
+    expect("the reason of mark 84, by document 01's gate", 7, knotsaddle_reason_of(KNOTSADDLE_SCHEDULE, made, size, 84, &told));
+    expect("report, by the profile", 0, strncmp("marks 85\n", (knotsaddle_report_text(0, &profile, text), text), 9) != 0);
+    expect("report, room for one byte less", 0,
+           knotsaddle_report(KNOTSADDLE_BASELINE, 3, LISTS(85, 85, 85), large, KNOTSADDLE_REPORT_ROOM - 1));
+    expect("the profile's board is accepted", 0, (size_t)knotsaddle_is_accepted(&profile));
+    memset(profile.kinds, 0, sizeof profile.kinds);
+    expect("one that holds", 1, (size_t)knotsaddle_is_accepted(&profile));
+    profile.kinds[84] = 1;
+    expect("with one fault", 0, (size_t)knotsaddle_is_accepted(&profile));
+    knotsaddle_fresh_board(KNOTSADDLE_BASELINE, &profile);
+    expect("a fresh board's faults", 85, knotsaddle_faults(profile.kinds, 85));
+    for (size_t m = 0; m < KNOTSADDLE_BASELINE_MARKS; m++) {
+        profile.kinds[m] = UINT32_MAX;
+        profile.places[m] = profile.companions[m] = SIZE_MAX;
+    }
+    expect("the longest report", 4770, knotsaddle_report_text(0, &profile, text));
+    expect_text("mark 84 is about", "ResourceAssignments, by the baseline profile: no actual dollars or hours are given",
+                knotsaddle_about_mark(KNOTSADDLE_BASELINE, 84));
+    expect_text("mark 85 is about", "", knotsaddle_about_mark(KNOTSADDLE_BASELINE, 85));
+}
+
+/* ---- The contract side: a bundle of four files, 19 marks. A control account of a WBS that is not there breaks mark 11. */
+
+static void contract_side(void) {
+    static const char account[] = "[{\"ID\":\"C\",\"Name\":\"n\",\"WBSElementID\":\"W\",\"OBSElementID\":\"O\"}]";
+    static uint8_t none[KNOTSADDLE_CONTRACT_EMPTY_BUNDLE + 1], made[1000];
+    char text[KNOTSADDLE_REPORT_ROOM];
+    size_t size = 0;
+    knotsaddle_board side;
+    knotsaddle_told told;
+    knotsaddle_part part;
+    knotsaddle_change put = knotsaddle_put(3, (const uint8_t *)account, strlen(account));
+    expect("the contract side's bundle with no files, no room", 0, knotsaddle_empty(KNOTSADDLE_CONTRACT, none, 35));
+    expect("the contract side's bundle with no files", 36, knotsaddle_empty(KNOTSADDLE_CONTRACT, none, 37));
+    expect("its count", 4, none[0]);
+    expect("18 marks for the contract side", 100,
+           knotsaddle_judge(KNOTSADDLE_CONTRACT, none, 36, LISTS(18, 19, 19), work, KNOTSADDLE_WORKSPACE));
+    expect("a workspace of one number less", 14, knotsaddle_judge(KNOTSADDLE_CONTRACT, none, 36, LISTS(19, 19, 19), work,
+                                                                  KNOTSADDLE_CONTRACT_WORKSPACE - 1));
+    expect("a workspace that is just enough", 0,
+           knotsaddle_judge(KNOTSADDLE_CONTRACT, none, 36, LISTS(19, 19, 19), work, KNOTSADDLE_CONTRACT_WORKSPACE));
+    expect("a bundle of document 01's gate", 2, knotsaddle_judge_bundle(KNOTSADDLE_CONTRACT, bundle, 164, &side));
+    expect("a bundle of 35 bytes", 1, knotsaddle_judge_bundle(KNOTSADDLE_CONTRACT, none, 35, &side));
+    expect("no files", 0, knotsaddle_judge_bundle(KNOTSADDLE_CONTRACT, none, 36, &side));
+    expect("they are accepted", 1, (size_t)knotsaddle_is_accepted(&side));
+    expect("try, file 4", 4, knotsaddle_try_change(none, 36, &side, knotsaddle_withdraw(4), NULL));
+    expect("make", 0, knotsaddle_make_change(none, 36, &side, put, made, sizeof made, &size));
+    expect("its length", 36 + strlen(account), size);
+    expect("its report", 0,
+           strcmp("marks 19\n11 1 1 0\n12 1 1 0\nrefused 2\n",
+                  (knotsaddle_report_text(0, &side, text), text)) != 0);
+    expect("its file 3", 0, knotsaddle_file_part(KNOTSADDLE_CONTRACT, made, size, 3, &part));
+    expect("where it starts", 36, (size_t)(part.bytes - made));
+    expect("file 4", 4, knotsaddle_file_part(KNOTSADDLE_CONTRACT, made, size, 4, &part));
+    expect("the reason of mark 11", 0, knotsaddle_reason_of(KNOTSADDLE_CONTRACT, made, size, 11, &told));
+    expect("its answer", KNOTSADDLE_TOLD_MISSING, told.answer);
+    expect("its value", 0, told.length != 3 || memcmp(told.value, "\"W\"", 3) != 0);
+    expect("the file searched", 1, told.searched);
+    expect("the name of its field", 12, knotsaddle_name_of_field(KNOTSADDLE_CONTRACT, told.file, told.field, text));
+    expect_text("its text", "WBSElementID", text);
+    expect("the reason of mark 19", 7, knotsaddle_reason_of(KNOTSADDLE_CONTRACT, made, size, 19, &told));
+    expect("the name of file 3", 20, knotsaddle_name_of_file(KNOTSADDLE_CONTRACT, 3, text));
+    expect_text("its text", "ControlAccounts.json", text);
+    expect("the name of file 4", 0, knotsaddle_name_of_file(KNOTSADDLE_CONTRACT, 4, text));
+    expect_text("mark 18 is about", "ControlAccounts: the OBS element has no children",
+                knotsaddle_about_mark(KNOTSADDLE_CONTRACT, 18));
+    expect_text("mark 19 is about", "", knotsaddle_about_mark(KNOTSADDLE_CONTRACT, 19));
 }
 
 /* ---- Whole sets, on a small stack: by the calls that get a workspace, and by those that are lent one */
@@ -559,11 +709,11 @@ static size_t set_length;
 static knotsaddle_change change;
 
 static void judge(void) {
-    own.answer = knotsaddle_judge_bundle(set, set_length, &own.board);
+    own.answer = knotsaddle_judge_bundle(KNOTSADDLE_SCHEDULE, set, set_length, &own.board);
 }
 
 static void judge_in(void) {
-    lent.answer = knotsaddle_judge_in(set, set_length, &lent.board, work, KNOTSADDLE_WORKSPACE);
+    lent.answer = knotsaddle_judge_in(KNOTSADDLE_SCHEDULE, set, set_length, &lent.board, work, KNOTSADDLE_WORKSPACE);
 }
 
 static void try(void) {
@@ -586,18 +736,18 @@ static void make_in(void) {
 /* The reason of every mark. */
 static void tell(void) {
     knotsaddle_told told;
-    for (size_t m = 0; m < KNOTSADDLE_MARKS; m++) knotsaddle_reason_of(set, set_length, m, &told);
+    for (size_t m = 0; m < KNOTSADDLE_MARKS; m++) knotsaddle_reason_of(KNOTSADDLE_SCHEDULE, set, set_length, m, &told);
 }
 
 static void tell_in(void) {
     knotsaddle_told told;
     for (size_t m = 0; m < KNOTSADDLE_MARKS; m++) {
-        knotsaddle_reason_in(set, set_length, m, &told, work, KNOTSADDLE_WORKSPACE);
+        knotsaddle_reason_in(KNOTSADDLE_SCHEDULE, set, set_length, m, &told, work, KNOTSADDLE_WORKSPACE);
     }
 }
 
 static void name_field(void) {
-    knotsaddle_field_name(19, 8, own.out, ROOM);
+    knotsaddle_field_name(KNOTSADDLE_SCHEDULE, 19, 8, own.out, ROOM);
 }
 
 /* The small calls, one after the other. */
@@ -605,14 +755,14 @@ static void others(void) {
     char text[1];
     uint32_t present[1];
     size_t place[2];
-    knotsaddle_fresh_board(&own.board);
-    knotsaddle_report(0, own.board.kinds, KNOTSADDLE_MARKS, own.board.places, KNOTSADDLE_MARKS,
+    knotsaddle_fresh_board(KNOTSADDLE_SCHEDULE, &own.board);
+    knotsaddle_report(KNOTSADDLE_SCHEDULE, 0, own.board.kinds, KNOTSADDLE_MARKS, own.board.places, KNOTSADDLE_MARKS,
                       own.board.companions, KNOTSADDLE_MARKS, own.out, ROOM);
     knotsaddle_faults(own.board.kinds, KNOTSADDLE_MARKS);
-    knotsaddle_file(set, set_length, 9, present, 1, place, 2);
-    knotsaddle_empty(own.out, ROOM);
-    knotsaddle_file_name(9, own.out, ROOM);
-    knotsaddle_file_name(9, (uint8_t *)text, 1);
+    knotsaddle_file(KNOTSADDLE_SCHEDULE, set, set_length, 9, present, 1, place, 2);
+    knotsaddle_empty(KNOTSADDLE_SCHEDULE, own.out, ROOM);
+    knotsaddle_file_name(KNOTSADDLE_SCHEDULE, 9, own.out, ROOM);
+    knotsaddle_file_name(KNOTSADDLE_SCHEDULE, 9, (uint8_t *)text, 1);
 }
 
 /* The most bytes that each call wrote on its stack. */
@@ -653,7 +803,7 @@ static size_t differs(void (*call)(void), void (*call_in)(void), size_t *most) {
 /* Reads a file of a set as the next change: 1, or 0 if there is none. */
 static int read_file(const char *folder, size_t file) {
     char path[4096], name[KNOTSADDLE_NAME_ROOM];
-    knotsaddle_name_of_file(file, name);
+    knotsaddle_name_of_file(KNOTSADDLE_SCHEDULE, file, name);
     snprintf(path, sizeof path, "%s/%s", folder, name);
     FILE *from = fopen(path, "rb");
     if (from == NULL) return 0;
@@ -669,7 +819,7 @@ static void whole_set(const char *folder) {
     knotsaddle_part part;
     at_hand = folder;
     memset(work, 0xff, sizeof work);
-    set_length = knotsaddle_empty(set, ROOM);
+    set_length = knotsaddle_empty(KNOTSADDLE_SCHEDULE, set, ROOM);
     expect("the bundle of no files judged otherwise", 0, differs(judge, judge_in, &judge_stack));
     for (size_t file = 0; file < KNOTSADDLE_FILES; file++) {
         if (!read_file(folder, file)) continue;
@@ -683,7 +833,7 @@ static void whole_set(const char *folder) {
         lengths += own.size != before.size;
         memcpy(set, own.out, own.size);
         set_length = own.size;
-        parts += knotsaddle_file_part(set, set_length, file, &part) != 0 || part.present != 1 ||
+        parts += knotsaddle_file_part(KNOTSADDLE_SCHEDULE, set, set_length, file, &part) != 0 || part.present != 1 ||
                  part.length != change.length || memcmp(part.bytes, new_bytes, part.length) != 0;
     }
     expect("no file", 0, files == 0);
@@ -728,6 +878,9 @@ int main(int argc, char **argv) {
     names();
     field_names();
     words();
+    no_gate();
+    baseline();
+    contract_side();
     for (int i = 1; i < argc; i++) whole_set(argv[i]);
     if (argc > 1) {
         stack_used("judging", judge_stack, KNOTSADDLE_STACK);

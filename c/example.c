@@ -26,9 +26,9 @@ int main(int argc, char **argv) {
         fprintf(stderr, "%s: cannot be read\n", argv[1]);
         return 2;
     }
-    knotsaddle_fresh_board(&board);
+    knotsaddle_fresh_board(KNOTSADDLE_SCHEDULE, &board);
     /* For a workspace of the caller's own: knotsaddle_judge_in. */
-    uint32_t refusal = knotsaddle_judge_bundle(bundle, length, &board);
+    uint32_t refusal = knotsaddle_judge_bundle(KNOTSADDLE_SCHEDULE, bundle, length, &board);
     if (refusal == KNOTSADDLE_NO_MEMORY) {
         fprintf(stderr, "%s\n", knotsaddle_in_words(refusal));
         return 2;
@@ -37,7 +37,7 @@ int main(int argc, char **argv) {
     if (fputs(text, stdout) < 0 || fflush(stdout) != 0) return 2;
     if (refusal != 0) fprintf(stderr, "%s\n", knotsaddle_in_words(refusal));
     for (size_t m = 0; refusal == 0 && m < KNOTSADDLE_MARKS; m++) {
-        if (board.kinds[m] != 0) fprintf(stderr, "mark %zu is about %s\n", m, knotsaddle_about_mark(m));
+        if (board.kinds[m] != 0) fprintf(stderr, "mark %zu is about %s\n", m, knotsaddle_about_mark(KNOTSADDLE_SCHEDULE, m));
     }
     return 0;
 }

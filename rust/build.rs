@@ -1,5 +1,5 @@
-// Links libgate_c.a, which `rt staticlib gate_c` writes, from the folder that KNOTSADDLE_LIB_DIR names, or else from
-// target/staticlib beside this folder.
+// Links the static libraries that c/libraries names and `rt staticlib NAME` writes, from the folder that KNOTSADDLE_LIB_DIR
+// names, or else from target/staticlib beside this folder: gate_c, and of the others those that are there.
 use std::env;
 use std::path::PathBuf;
 
@@ -11,5 +11,9 @@ fn main() {
             .join("../target/staticlib"),
     };
     println!("cargo:rustc-link-search=native={}", folder.display());
-    println!("cargo:rustc-link-lib=static=gate_c");
+    for name in include_str!("../c/libraries").split_whitespace() {
+        if name == "gate_c" || folder.join(format!("lib{name}.a")).exists() {
+            println!("cargo:rustc-link-lib=static={name}");
+        }
+    }
 }

@@ -1,4 +1,5 @@
-//! The gate: judge a bundle in full, try a change, make it, ask why a mark doesn't hold, ask for a file, print a report.
+//! The gates: judge a bundle in full, try a change, make it, ask why a mark doesn't hold, ask for a file, print a report.
+//! `Gate` says by which: document 01's, its baseline profile, or that of the contract side.
 //!
 //! It stands on the static library that `rt staticlib gate_c` writes, for x86-64 Linux. Set `KNOTSADDLE_LIB_DIR` to the
 //! folder that holds `libgate_c.a`; without it `../target/staticlib` is searched. `docs/BUNDLE.md` has the layout of a bundle,
@@ -12,27 +13,61 @@ use std::fmt;
 
 /// How many files a set has.
 pub const FILES: usize = 20;
-/// How many marks a board has.
+/// How many marks a board of document 01's gate has.
 pub const MARKS: usize = 81;
-/// How many numbers a lent workspace must have.
+/// How many a board of the baseline profile has.
+pub const BASELINE_MARKS: usize = 85;
+/// How many files a set of the contract side has.
+pub const CONTRACT_FILES: usize = 4;
+/// How many marks its board has.
+pub const CONTRACT_MARKS: usize = 19;
+/// How many numbers a lent workspace must have; for the contract side 188,416 are enough.
 pub const WORKSPACE: usize = 794_702;
-/// The length of the bundle with no files.
+/// The length of the bundle with no files; that of the contract side has 36 bytes.
 pub const EMPTY_BUNDLE: usize = 164;
 /// The room that a report needs.
-pub const REPORT_ROOM: usize = 6144;
+pub const REPORT_ROOM: usize = 6400;
 /// The length of the longest name of a file; no field has a longer one.
 const NAME_ROOM: usize = 35;
 
-/// The board: a kind, a place and a companion for each mark. Kind 0: the mark holds.
-#[derive(Clone, Debug, PartialEq, Eq)]
-pub struct Board {
-    pub kinds: [u32; MARKS],
-    pub places: [usize; MARKS],
-    pub companions: [usize; MARKS],
+/// The gates, by the numbers under which the calls know them.
+#[derive(Clone, Copy, Debug, PartialEq, Eq)]
+pub enum Gate {
+    /// Document 01's.
+    Schedule = 0,
+    /// Its profile for a delivery at contract start.
+    Baseline = 1,
+    /// That of the contract side: Subcontractors, WBS, OBS and ControlAccounts.
+    Contract = 2,
 }
 
-/// Why a call is refused, by its number: document 01's 1 to 6, 7 for a mark number over 80, 14 where a lent workspace is too
-/// short, 102 where there is no memory for one. In words by `Display`.
+impl Gate {
+    /// How many marks a board has.
+    pub fn marks(self) -> usize {
+        match self {
+            Gate::Schedule => MARKS,
+            Gate::Baseline => BASELINE_MARKS,
+            Gate::Contract => CONTRACT_MARKS,
+        }
+    }
+
+    fn number(self) -> u32 {
+        self as u32
+    }
+}
+
+/// The board of a gate: a kind, a place and a companion for each of its marks. Kind 0: the mark holds.
+#[derive(Clone, Debug, PartialEq, Eq)]
+pub struct Board {
+    pub gate: Gate,
+    pub kinds: Vec<u32>,
+    pub places: Vec<usize>,
+    pub companions: Vec<usize>,
+}
+
+/// Why a call is refused, by its number: document 01's 1 to 6, 7 for a mark number that is too high, 14 where a lent workspace is
+/// too short, 100 for a board of another length than its gate's, 102 where there is no memory for a workspace. In words by
+/// `Display`.
 #[derive(Clone, Copy, Debug, PartialEq, Eq)]
 pub struct Refusal(pub u32);
 
@@ -81,6 +116,7 @@ const TOLD_NUMBERS: usize = 9;
 // A slice is passed as its pointer and then its length. `usize` is C's `size_t`.
 extern "C" {
     fn knotsaddle_judge(
+        gate: u32,
         bundle: *const u8,
         bundle_length: usize,
         kinds: *mut u32,
@@ -93,6 +129,7 @@ extern "C" {
         work_length: usize,
     ) -> u32;
     fn knotsaddle_try(
+        gate: u32,
         bundle: *const u8,
         bundle_length: usize,
         kinds: *mut u32,
@@ -111,6 +148,7 @@ extern "C" {
         work_length: usize,
     ) -> u32;
     fn knotsaddle_make(
+        gate: u32,
         bundle: *const u8,
         bundle_length: usize,
         kinds: *mut u32,
@@ -131,6 +169,7 @@ extern "C" {
         work_length: usize,
     ) -> u32;
     fn knotsaddle_reason(
+        gate: u32,
         bundle: *const u8,
         bundle_length: usize,
         mark: usize,
@@ -140,6 +179,7 @@ extern "C" {
         work_length: usize,
     ) -> u32;
     fn knotsaddle_report(
+        gate: u32,
         refusal: u32,
         kinds: *const u32,
         kinds_length: usize,
@@ -151,6 +191,7 @@ extern "C" {
         out_length: usize,
     ) -> usize;
     fn knotsaddle_file(
+        gate: u32,
         bundle: *const u8,
         bundle_length: usize,
         file: usize,
@@ -159,8 +200,9 @@ extern "C" {
         place: *mut usize,
         place_length: usize,
     ) -> u32;
-    fn knotsaddle_empty(out: *mut u8, out_length: usize) -> usize;
+    fn knotsaddle_empty(gate: u32, out: *mut u8, out_length: usize) -> usize;
     fn knotsaddle_fresh(
+        gate: u32,
         kinds: *mut u32,
         kinds_length: usize,
         places: *mut usize,
@@ -169,30 +211,33 @@ extern "C" {
         companions_length: usize,
     ) -> u32;
     fn knotsaddle_faults(kinds: *const u32, kinds_length: usize) -> usize;
-    fn knotsaddle_file_name(file: usize, out: *mut u8, out_length: usize) -> usize;
-    fn knotsaddle_field_name(file: usize, field: usize, out: *mut u8, out_length: usize) -> usize;
+    fn knotsaddle_file_name(gate: u32, file: usize, out: *mut u8, out_length: usize) -> usize;
+    fn knotsaddle_field_name(gate: u32, file: usize, field: usize, out: *mut u8, out_length: usize) -> usize;
 }
 
 // In each call below every pointer comes from a slice or an array of the length beside it, and what is written is lent
-// alone. The lists of a board and of a reason have the right length by their type, and `present` is 1 or 0, so no call answers
-// 100 or 101.
+// alone. A gate's number is one of those that there are, the list of a reason has the right length by its type, and `present` is
+// 1 or 0, so no call answers 103 or 101, and 100 only for a board whose lists a caller made longer or shorter.
 
 impl Board {
     /// Every mark 'not judged'.
-    pub fn fresh() -> Board {
+    pub fn fresh(gate: Gate) -> Board {
+        let marks = gate.marks();
         let mut board = Board {
-            kinds: [0; MARKS],
-            places: [0; MARKS],
-            companions: [0; MARKS],
+            gate,
+            kinds: vec![0; marks],
+            places: vec![0; marks],
+            companions: vec![0; marks],
         };
         unsafe {
             knotsaddle_fresh(
+                gate.number(),
                 board.kinds.as_mut_ptr(),
-                MARKS,
+                marks,
                 board.places.as_mut_ptr(),
-                MARKS,
+                marks,
                 board.companions.as_mut_ptr(),
-                MARKS,
+                marks,
             );
         }
         board
@@ -200,12 +245,12 @@ impl Board {
 
     /// How many marks don't hold.
     pub fn faults(&self) -> usize {
-        unsafe { knotsaddle_faults(self.kinds.as_ptr(), MARKS) }
+        unsafe { knotsaddle_faults(self.kinds.as_ptr(), self.kinds.len()) }
     }
 
-    /// Whether all marks hold.
+    /// Whether all marks of its gate hold.
     pub fn is_accepted(&self) -> bool {
-        self.faults() == 0
+        self.kinds.len() == self.gate.marks() && self.faults() == 0
     }
 }
 
@@ -219,18 +264,19 @@ fn answer<T>(refusal: u32, value: T) -> Result<T, Refusal> {
 
 /// Judges a bundle in full in a lent workspace of at least `WORKSPACE` numbers, whatever they are. After a refusal it is as
 /// it was, else it holds what was read; it may be lent again as it is.
-pub fn judge_in(bundle: &[u8], work: &mut [u32]) -> Result<Board, Refusal> {
-    let mut board = Board::fresh();
+pub fn judge_in(gate: Gate, bundle: &[u8], work: &mut [u32]) -> Result<Board, Refusal> {
+    let mut board = Board::fresh(gate);
     let refusal = unsafe {
         knotsaddle_judge(
+            gate.number(),
             bundle.as_ptr(),
             bundle.len(),
             board.kinds.as_mut_ptr(),
-            MARKS,
+            board.kinds.len(),
             board.places.as_mut_ptr(),
-            MARKS,
+            board.places.len(),
             board.companions.as_mut_ptr(),
-            MARKS,
+            board.companions.len(),
             work.as_mut_ptr(),
             work.len(),
         )
@@ -252,14 +298,15 @@ pub fn try_in(
     let mut size = [0usize; 1];
     let refusal = unsafe {
         knotsaddle_try(
+            board.gate.number(),
             bundle.as_ptr(),
             bundle.len(),
             board.kinds.as_mut_ptr(),
-            MARKS,
+            board.kinds.len(),
             board.places.as_mut_ptr(),
-            MARKS,
+            board.places.len(),
             board.companions.as_mut_ptr(),
-            MARKS,
+            board.companions.len(),
             file,
             new.is_some() as u32,
             bytes.as_ptr(),
@@ -289,14 +336,15 @@ pub fn make_in(
     let mut size = [0usize; 1];
     let refusal = unsafe {
         knotsaddle_make(
+            board.gate.number(),
             bundle.as_ptr(),
             bundle.len(),
             board.kinds.as_mut_ptr(),
-            MARKS,
+            board.kinds.len(),
             board.places.as_mut_ptr(),
-            MARKS,
+            board.places.len(),
             board.companions.as_mut_ptr(),
-            MARKS,
+            board.companions.len(),
             file,
             new.is_some() as u32,
             bytes.as_ptr(),
@@ -313,11 +361,17 @@ pub fn make_in(
     answer(refusal, Changed { board, length })
 }
 
-/// What is told of a mark, 0 to 80, of a bundle, in a lent workspace.
-pub fn reason_in<'a>(bundle: &'a [u8], mark: usize, work: &mut [u32]) -> Result<Reason<'a>, Refusal> {
+/// What is told of a mark of a bundle, in a lent workspace.
+pub fn reason_in<'a>(
+    gate: Gate,
+    bundle: &'a [u8],
+    mark: usize,
+    work: &mut [u32],
+) -> Result<Reason<'a>, Refusal> {
     let mut told = [0usize; TOLD_NUMBERS];
     let refusal = unsafe {
         knotsaddle_reason(
+            gate.number(),
             bundle.as_ptr(),
             bundle.len(),
             mark,
@@ -353,8 +407,8 @@ fn workspace() -> Result<Vec<u32>, Refusal> {
 }
 
 /// Judges a bundle in full.
-pub fn judge(bundle: &[u8]) -> Result<Board, Refusal> {
-    judge_in(bundle, &mut workspace()?)
+pub fn judge(gate: Gate, bundle: &[u8]) -> Result<Board, Refusal> {
+    judge_in(gate, bundle, &mut workspace()?)
 }
 
 /// Tries a change, as `try_in` has it.
@@ -379,16 +433,17 @@ pub fn make_change(
 }
 
 /// What is told of a mark, as `reason_in` has it.
-pub fn reason(bundle: &[u8], mark: usize) -> Result<Reason<'_>, Refusal> {
-    reason_in(bundle, mark, &mut workspace()?)
+pub fn reason(gate: Gate, bundle: &[u8], mark: usize) -> Result<Reason<'_>, Refusal> {
+    reason_in(gate, bundle, mark, &mut workspace()?)
 }
 
 /// A file of a bundle, 0 to 19, as the part of the bundle itself; `None` for an omitted one.
-pub fn file(bundle: &[u8], file: usize) -> Result<Option<&[u8]>, Refusal> {
+pub fn file(gate: Gate, bundle: &[u8], file: usize) -> Result<Option<&[u8]>, Refusal> {
     let mut present = [0u32; 1];
     let mut place = [0usize; 2];
     let refusal = unsafe {
         knotsaddle_file(
+            gate.number(),
             bundle.as_ptr(),
             bundle.len(),
             file,
@@ -403,29 +458,30 @@ pub fn file(bundle: &[u8], file: usize) -> Result<Option<&[u8]>, Refusal> {
 }
 
 /// The bundle with no files.
-pub fn empty_bundle() -> [u8; EMPTY_BUNDLE] {
-    let mut bundle = [0u8; EMPTY_BUNDLE];
-    unsafe { knotsaddle_empty(bundle.as_mut_ptr(), EMPTY_BUNDLE) };
+pub fn empty_bundle(gate: Gate) -> Vec<u8> {
+    let mut bundle = vec![0u8; EMPTY_BUNDLE];
+    let length = unsafe { knotsaddle_empty(gate.number(), bundle.as_mut_ptr(), EMPTY_BUNDLE) };
+    bundle.truncate(length);
     bundle
 }
 
 /// The name of a file, 0 to 19.
-pub fn file_name(file: usize) -> Option<String> {
+pub fn file_name(gate: Gate, file: usize) -> Option<String> {
     let mut name = [0u8; NAME_ROOM];
-    let length = unsafe { knotsaddle_file_name(file, name.as_mut_ptr(), NAME_ROOM) };
+    let length = unsafe { knotsaddle_file_name(gate.number(), file, name.as_mut_ptr(), NAME_ROOM) };
     (length != 0).then(|| String::from_utf8_lossy(&name[..length]).into_owned())
 }
 
 /// The name of a field of a file, counted from 0; `None` where the file has no such field.
-pub fn field_name(file: usize, field: usize) -> Option<String> {
+pub fn field_name(gate: Gate, file: usize, field: usize) -> Option<String> {
     let mut name = [0u8; NAME_ROOM];
-    let length = unsafe { knotsaddle_field_name(file, field, name.as_mut_ptr(), NAME_ROOM) };
+    let length = unsafe { knotsaddle_field_name(gate.number(), file, field, name.as_mut_ptr(), NAME_ROOM) };
     (length != 0).then(|| String::from_utf8_lossy(&name[..length]).into_owned())
 }
 
-/// The judging program's text of a judgement.
+/// The judging program's text of a judgement; empty for a board of another length than its gate's.
 pub fn report(judged: &Result<Board, Refusal>) -> String {
-    let fresh = Board::fresh();
+    let fresh = Board::fresh(Gate::Schedule);
     let (refusal, board) = match judged {
         Ok(board) => (0, board),
         Err(Refusal(number)) => (*number, &fresh),
@@ -433,13 +489,14 @@ pub fn report(judged: &Result<Board, Refusal>) -> String {
     let mut text = [0u8; REPORT_ROOM];
     let length = unsafe {
         knotsaddle_report(
+            board.gate.number(),
             refusal,
             board.kinds.as_ptr(),
-            MARKS,
+            board.kinds.len(),
             board.places.as_ptr(),
-            MARKS,
+            board.places.len(),
             board.companions.as_ptr(),
-            MARKS,
+            board.companions.len(),
             text.as_mut_ptr(),
             REPORT_ROOM,
         )
@@ -449,10 +506,15 @@ pub fn report(judged: &Result<Board, Refusal>) -> String {
 
 // The texts stand once, in the lines that the header includes too: `"text",` and `{number, "text"},`.
 
-/// What a mark, 0 to 80, is about.
-pub fn about_mark(mark: usize) -> Option<&'static str> {
-    let lines = include_str!("../../c/marks.inc").lines();
-    lines.filter_map(|line| line.strip_prefix('"')?.strip_suffix("\",")).nth(mark)
+/// What a mark of a gate is about.
+pub fn about_mark(gate: Gate, mark: usize) -> Option<&'static str> {
+    let texts = match gate {
+        Gate::Contract => include_str!("../../c/contract_marks.inc"),
+        _ => include_str!("../../c/marks.inc"),
+    };
+    let lines = texts.lines();
+    let mut texts = lines.filter_map(|line| line.strip_prefix('"')?.strip_suffix("\","));
+    (mark < gate.marks()).then(|| texts.nth(mark)).flatten()
 }
 
 impl Refusal {

@@ -1,4 +1,4 @@
--- The records that cells show, and their entries.
+-- The entries of a table's records.
 -- Assumes nothing.
 use Prim.Native.Nat.{ℕ, zero, suc, _+_, _-_, _*_, _≤_, _<_}
 use mathlib.Core.Path.{_≡_, refl, sym, ap, _∙_}
@@ -15,48 +15,14 @@ use Rattle.bundle_bytes.specs.Pieces.{written}
 use Rattle.key_sum.specs.Sum.{keySum}
 use Rattle.sorted_numbers.proofs.Laws.{ordered-length}
 use Rattle.mark_numbers.proofs.Laws.{list-length}
-use Rattle.rule_cells.specs.Cells.{Table, table, cellOf, startOf, isGiven}
+use Rattle.rule_cells.specs.Cells.{Table, table, cellOf, startOf}
 use Rattle.rule_key.specs.declared.Key.{Key}
 use Rattle.key_order.specs.Order.{fieldSum, precedes, sumsOf, recordsOf, inKeyOrder, areFit, orderAfter}
+use Rattle.key_order.proofs.Lists.{order-any}
 use Rattle.entries.specs.declared.Entry.{Entry}
 use Rattle.entries.specs.Entries.{wrapped, entryOf, sumAlone, entriesOf}
-use Rattle.entries.specs.Flat.{flatOf, givenFrom, givenIn, fitsAt, listedIn}
+use Rattle.entries.specs.Flat.{flatOf, fitsAt, listedIn}
 use Rattle.entries.proofs.Flat.{written-nothing, taken-before}
-
--- ---- the records that cells show
-module _ (cells : List ℕ) (width k : ℕ) where
-  -- from record r on, as many as are left of 4,096
-  abbrev pub Counted : ℕ → Type 0
-  Counted r = (left : ℕ) × (r + left ≡ 4096) × (givenFrom cells width k left r ≡ givenIn cells width k)
-
-  pub count-starts : Counted 0
-  unfolding givenIn
-  count-starts = (4096, refl, refl)
-
-  module _ {r : ℕ} (c : Counted r) {given : Bool} (is : given ≡ isGiven cells width r k) where
-    pub count-more : r < 4096 → given ≡ true → Counted (r + 1)
-    unfolding givenFrom
-    count-more l e = go (c .0) (c .1) (c .2)
-      where
-        go : (left : ℕ) → r + left ≡ 4096 → givenFrom cells width k left r ≡ givenIn cells width k → Counted (r + 1)
-        go zero p q = absurd (omega (arith, l, p))
-        go (suc left) p q = (left, omega (arith, p), rw (add-one r) (rw (sym is ∙ e, givenFrom) at q))
-
-    pub count-stops : r < 4096 → given ≡ false → r ≡ givenIn cells width k
-    unfolding givenFrom
-    count-stops l e = go (c .0) (c .1) (c .2)
-      where
-        go : (left : ℕ) → r + left ≡ 4096 → givenFrom cells width k left r ≡ givenIn cells width k → r ≡ givenIn cells width k
-        go zero p q = absurd (omega (arith, l, p))
-        go (suc left) p q = rw (sym is ∙ e, givenFrom) at q
-
-  pub count-ends : {r : ℕ} → Counted r → 4096 ≤ r → r ≡ givenIn cells width k
-  unfolding givenFrom
-  count-ends {r} c l = go (c .0) (c .1) (c .2)
-    where
-      go : (left : ℕ) → r + left ≡ 4096 → givenFrom cells width k left r ≡ givenIn cells width k → r ≡ givenIn cells width k
-      go zero p q = q
-      go (suc left) p q = absurd (omega (arith, l, p))
 
 -- ---- an entry from its numbers
 module _ (s cells : List ℕ) (width k r : ℕ) where
@@ -88,45 +54,54 @@ module _ (s work : List ℕ) (from to width k at : ℕ) (l : from ≤ to) (m : t
   unfolding orderAfter entriesOf
   ordered-listed sums order scratch key-is cells-are last-is fit is = is ∙ rw (last-is, fit, key-is, cells-are, part-is work from to l m)
 
+-- how many records the table is said to have makes no difference
+pub entries-any : (s cells : List ℕ) (width records k n : ℕ) → entriesOf (table s cells width 0) k n ≡ entriesOf (table s cells width records) k n
+unfolding entriesOf entryOf fieldSum
+entries-any s cells width records k n = rw (order-any s cells width records (sumAlone k) n)
+
 -- ---- the table whose cells stand in a list
-module _ (s work : List ℕ) (from to width k at : ℕ) where
+module _ (s work : List ℕ) (from to width k n at : ℕ) where
   abbrev listed : List Entry
-  listed = listedIn s work from to width k at
+  listed = listedIn s work from to width k n at
 
   -- nothing is written where it does not fit
-  pub not-listed : fitsAt work from to k at ≡ false → (0 ≡ length listed) × (work ≡ written work at (flatOf listed))
+  pub not-listed : fitsAt work from to k n at ≡ false → (0 ≡ length listed) × (work ≡ written work at (flatOf listed))
   unfolding listedIn flatOf
   not-listed e = rw e (refl, sym (written-nothing work at))
 
-  pub turned : to < from → fitsAt work from to k at ≡ false
+  pub turned : to < from → fitsAt work from to k n at ≡ false
   unfolding fitsAt
   turned h = rw (lt-leb from to h)
 
   module _ (l : from ≤ to) where
-    pub before-cells : at < to → fitsAt work from to k at ≡ false
+    pub before-cells : at < to → fitsAt work from to k n at ≡ false
     unfolding fitsAt
     before-cells h = rw (le-leb from to l, lt-leb to at h)
 
     module _ (m : to ≤ at) where
-      pub too-short : length work < at + 16384 → fitsAt work from to k at ≡ false
+      pub too-short : length work < at + 16384 → fitsAt work from to k n at ≡ false
       unfolding fitsAt
       too-short h = rw (le-leb from to l, le-leb to at m, lt-leb (at + 16384) (length work) h)
 
-      module _ (n : at + 16384 ≤ length work) where
-        pub no-field : 64 ≤ k → fitsAt work from to k at ≡ false
+      module _ (room : at + 16384 ≤ length work) where
+        pub no-field : 64 ≤ k → fitsAt work from to k n at ≡ false
         unfolding fitsAt
-        no-field h = rw (le-leb from to l, le-leb to at m, le-leb (at + 16384) (length work) n, le-ltb k 64 h)
+        no-field h = rw (le-leb from to l, le-leb to at m, le-leb (at + 16384) (length work) room, le-ltb k 64 h)
 
-        fits : k < 64 → listed ≡ entriesOf (table s (partOf work from to) width 0) k (givenIn (partOf work from to) width k)
-        unfolding listedIn fitsAt
-        fits h = rw (le-leb from to l, le-leb to at m, le-leb (at + 16384) (length work) n, lt-ltb k 64 h)
+        module _ (few : k < 64) where
+          pub too-many : 4096 < n → fitsAt work from to k n at ≡ false
+          unfolding fitsAt
+          too-many h = rw (le-leb from to l, le-leb to at m, le-leb (at + 16384) (length work) room, lt-ltb k 64 few, lt-leb n 4096 h)
 
-        pub all-listed : k < 64 → {cells : List ℕ} → cells ≡ take (to - from) (drop from work) → {r : ℕ} → r ≡ givenIn cells width k → {work′ : List ℕ} → work′ ≡ written work at (flatOf (entriesOf (table s (partOf work from to) width 0) k r)) → (r ≡ length listed) × (work′ ≡ written work at (flatOf listed))
-        all-listed h {cells} cells-are {r} r-is is =
-            let part : cells ≡ partOf work from to = cells-are ∙ sym (part-is work from to l (omega arith)) in
-            let t = table s (partOf work from to) width 0 in
-            let same : listed ≡ entriesOf t k r = fits h ∙ ap (λ (c : List ℕ). entriesOf t k (givenIn c width k)) (sym part) ∙ ap (entriesOf t k) (sym r-is) in
-            (sym (ap length same ∙ entries-long t k r), is ∙ ap (λ es. written work at (flatOf es)) (sym same))
+          module _ (most : n ≤ 4096) where
+            pub fits : listed ≡ entriesOf (table s (partOf work from to) width 0) k n
+            unfolding listedIn fitsAt
+            fits = rw (le-leb from to l, le-leb to at m, le-leb (at + 16384) (length work) room, lt-ltb k 64 few, le-leb n 4096 most)
+
+            pub all-listed : {work′ : List ℕ} → work′ ≡ written work at (flatOf (entriesOf (table s (partOf work from to) width 0) k n)) → (n ≡ length listed) × (work′ ≡ written work at (flatOf listed))
+            all-listed is =
+                let t = table s (partOf work from to) width 0 in
+                (sym (ap length fits ∙ entries-long t k n), is ∙ ap (λ es. written work at (flatOf es)) (sym fits))
 
 -- ---- the front of a list of 4,096
 pub front : (n : ℕ) (l : List ℕ) → length l ≡ 4096 → n ≤ 4096 → n ≡ length (take n l)

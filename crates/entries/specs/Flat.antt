@@ -1,12 +1,11 @@
--- For the code's sake alone: entries as plain numbers, four each, in a lent list of numbers; and the records of a table as its
--- cells show them.
-use Prim.Native.Nat.{ℕ, zero, suc, _+_, _*_, _≤_}
-use mathlib.Core.Bool.{Bool, true, false, cond, _&&_}
+-- For the code's sake alone: entries as plain numbers, four each, in a lent list of numbers.
+use Prim.Native.Nat.{ℕ, zero, suc, _+_, _*_}
+use mathlib.Core.Bool.{Bool, cond, _&&_}
 use mathlib.Core.List.{List, [], _∷_, _++_}
 use lib.ListN.{length, getD}
 use lib.Dec.{ltb, leb}
 use Rattle.parts.specs.Part.{partOf}
-use Rattle.rule_cells.specs.Cells.{Table, table, isGiven}
+use Rattle.rule_cells.specs.Cells.{Table, table}
 use Rattle.entries.specs.declared.Entry.{Entry}
 use Rattle.entries.specs.Entries.{entriesOf}
 
@@ -27,22 +26,11 @@ unfoldable pub entriesIn : List ℕ → ℕ → ℕ → List Entry
 entriesIn flat from zero = []
 entriesIn flat from (suc n) = entriesIn flat from n ++ (entryIn flat (from + 4 * n) ∷ [])
 
--- ---- How many records a table's cells show: those up to the first whose field k is not given. Of a readable table these are
--- all, where field k is mandatory.
-unfoldable pub givenFrom : List ℕ → ℕ → ℕ → ℕ → ℕ → ℕ
-givenFrom cells width k zero r = r
-givenFrom cells width k (suc left) r = elim (isGiven cells width r k) [ true ↦ givenFrom cells width k left (suc r) | false ↦ r ]
+-- ---- The entries of the first n records of the table whose cells stand in a list from one place up to another, for a place at
+-- which they are to be written: none where there is no room for them behind the cells
+unfoldable pub fitsAt : List ℕ → ℕ → ℕ → ℕ → ℕ → ℕ → Bool
+fitsAt work from to k n at = leb from to && (leb to at && (leb (at + 16384) (length work) && (ltb k 64 && leb n 4096)))
 
--- of 4,096 at most
-unfoldable pub givenIn : List ℕ → ℕ → ℕ → ℕ
-givenIn cells width k = givenFrom cells width k 4096 0
-
--- ---- The entries of the table whose cells stand in a list from one place up to another, for a place at which they are to be
--- written: none where there is no room for them behind the cells
-unfoldable pub fitsAt : List ℕ → ℕ → ℕ → ℕ → ℕ → Bool
-fitsAt work from to k at = leb from to && (leb to at && (leb (at + 16384) (length work) && ltb k 64))
-
-unfoldable pub listedIn : List ℕ → List ℕ → ℕ → ℕ → ℕ → ℕ → ℕ → List Entry
-listedIn s work from to width k at =
-    cond (fitsAt work from to k at)
-    (entriesOf (table s (partOf work from to) width 0) k (givenIn (partOf work from to) width k)) []
+unfoldable pub listedIn : List ℕ → List ℕ → ℕ → ℕ → ℕ → ℕ → ℕ → ℕ → List Entry
+listedIn s work from to width k n at =
+    cond (fitsAt work from to k n at) (entriesOf (table s (partOf work from to) width 0) k n) []

@@ -10,10 +10,9 @@ ghost use Rattle.parts.specs.Part.{partOf};
 ghost use Rattle.rule_cells.specs.Cells.{table, cellOf};
 ghost use Rattle.key_order.specs.Order.{areFit};
 ghost use Rattle.entries.specs.Entries.{wrapped, entryOf, sumAlone, entriesOf};
-ghost use Rattle.entries.specs.Flat.{numbersOf, flatOf, givenIn, listedIn};
+ghost use Rattle.entries.specs.Flat.{numbersOf, flatOf, listedIn};
 use key_order::key_order;
 use key_sum::key_sum;
-use rule_cells::is_given;
 use rule_key::Key;
 use table_rows::cell_at;
 
@@ -24,21 +23,6 @@ pub struct Entry {
     pub length: u32,
     pub sum: u32,
     pub record: u32,
-}
-
-// How many records have field k, up to the first that has not.
-fn count_given(cells: &[u32], width: usize, k: usize) -> usize
-    ensures { λ r. ⌜ (r ≡ givenIn (now (cells .entry)) width k) × (r ≤ 4096) ⌝ }
-{
-    let mut r = 0;
-    while r < 4096 {
-        if is_given(cells, width, r, k) {
-            r += 1;
-        } else {
-            return r;
-        }
-    }
-    r
 }
 
 // Cell j of record r; 0 past the cells.
@@ -189,9 +173,9 @@ fn list_records(
     );
 }
 
-// Writes the entries of the table whose cells stand in `work` from one place up to another, by field k,
-// and answers how many these are. Where there is no room for 4,096 of them from the place behind the
-// cells, nothing is written.
+// Writes the entries of the first n records of the table whose cells stand in `work` from one place up
+// to another, by field k, and answers how many these are. Where there is no room for 4,096 of them
+// from the place behind the cells, nothing is written.
 pub fn list_table(
     s: &[u8],
     work: &mut [u32],
@@ -199,10 +183,11 @@ pub fn list_table(
     to: usize,
     width: usize,
     k: usize,
+    n: usize,
     at: usize,
 ) -> usize
-    ensures { λ r. ⌜ r ≡ length (listedIn (now (s .entry)) (now (work .entry)) from to width k at) ⌝ }
-    ensures { λ _. ⌜ now (work .exit) ≡ written (now (work .entry)) at (flatOf (listedIn (now (s .entry)) (now (work .entry)) from to width k at)) ⌝ }
+    ensures { λ r. ⌜ r ≡ length (listedIn (now (s .entry)) (now (work .entry)) from to width k n at) ⌝ }
+    ensures { λ _. ⌜ now (work .exit) ≡ written (now (work .entry)) at (flatOf (listedIn (now (s .entry)) (now (work .entry)) from to width k n at)) ⌝ }
 {
     if to < from {
         return 0;
@@ -219,7 +204,9 @@ pub fn list_table(
     if 64 <= k {
         return 0;
     }
-    let n = count_given(&work[from..to], width, k);
+    if 4096 < n {
+        return 0;
+    }
     list_records(s, work, from, to, width, k, n, at);
     n
 }

@@ -3,7 +3,7 @@
 -- Assumes nothing.
 use Prim.Native.Nat.{ℕ, _≤_, _<_}
 use mathlib.Core.Path.{_≡_, refl, sym, ap, _∙_}
-use mathlib.Core.Bool.{Bool, true, false, cond, not, _&&_}
+use mathlib.Core.Bool.{Bool, true, false, cond, not, true≢false}
 use mathlib.Core.List.{List, _++_}
 use native.Mathlib.Omega.{arith}
 use borrow.Author.Tests.{eqb-true, eq-eqb, ne-eqb, lt-ltb, le-ltb}
@@ -14,66 +14,95 @@ use Rattle.mark_numbers.proofs.Laws.{lists-long, lists-wrong, lists-right, fres
 use Rattle.bundle_layout.specs.Change.{filesAfter}
 use Rattle.bundle.specs.declared.Made.{Made}
 use Rattle.gate_marks.specs.declared.Scope.the-variants.{Change}
+use Rattle.gate_marks.specs.Gate.{marksOf}
 use Rattle.gate_marks.specs.Again.{hasLists}
 use Rattle.gate_calls.specs.Calls.{Answer}
-use Rattle.gate_calls.specs.Lent.{judgedIn, triedIn, madeIn, outputIn, judgeLeft, changeLeft}
-use Rattle.schedule.specs.Schedule.{schedule}
-use Rattle.schedule.proofs.Laws.{marks-are}
-use Rattle.gate_lists.specs.declared.Which.the-variants.{Schedule}
+use Rattle.gate_calls.specs.Lent.{judgedIn, triedIn, madeIn, outputIn, workLeft, judgeLeft, changeLeft}
+use Rattle.gate_lists.specs.declared.Which.{Which}
 use Rattle.gate_lists.specs.Which.{gateCalled, madeOf}
 use Rattle.gate_lists.proofs.Answers.{work-untouched}
 use Rattle.report.specs.Report.{textIn}
-use Rattle.gate_c.specs.Calls.{unlessRefused, callFault, called, fileHanded, tryCalled, makeCalled, outputCalled, sizeAfter, textCalled, freshFault, freshCalled}
+use Rattle.gate_c.specs.Calls.{unlessRefused, whichOf, gateNumbered, gateFault, boardFault, judgeCalled, callFault, called, fileHanded, tryCalled, makeCalled, outputCalled, sizeAfter, textCalled, freshCalled}
 
--- ---- the lists of a board, by the test that the code makes
-module _ (handed : Marks) {t : Bool} (t-is : t ≡ haveLength 81 handed) where
-  board-is : haveLength 81 handed ≡ hasLists schedule handed
-  unfolding hasLists
-  board-is = ap (λ n. haveLength n handed) (sym marks-are)
+-- ---- the number of a gate and the lists of a board, by the tests that the code makes
+module _ (gate : ℕ) (handed : Marks) where
+  pub board-unknown : 2 < gate → 103 ≡ boardFault gate handed
+  unfolding boardFault
+  board-unknown l = rw (lt-ltb 2 gate l)
 
-  pub board-wrong : not t ≡ true → hasLists schedule handed ≡ false
-  board-wrong e = sym board-is ∙ lists-wrong 81 handed t-is e
+  module _ (known : gate ≤ 2) {w : Which} (w-is : w ≡ whichOf gate) {n : ℕ} (n-is : n ≡ marksOf (gateCalled w)) {t : Bool} (t-is : t ≡ haveLength n handed) where
+    board-is : hasLists (gateNumbered gate) handed ≡ haveLength n handed
+    unfolding hasLists
+    board-is = ap (λ m. haveLength m handed) (sym (n-is ∙ ap (λ w. marksOf (gateCalled w)) w-is))
 
-  pub board-right : not t ≡ false → hasLists schedule handed ≡ true
-  board-right e = sym board-is ∙ lists-right 81 handed t-is e
+    pub board-wrong : not t ≡ true → 100 ≡ boardFault gate handed
+    unfolding boardFault
+    board-wrong e = rw (le-ltb 2 gate known, board-is, lists-wrong n handed t-is e)
 
--- ---- a call's own fault
-module _ (handed : Marks) (size : List ℕ) (present : ℕ) where
-  pub fault-board : hasLists schedule handed ≡ false → 100 ≡ callFault schedule handed size present
-  unfolding callFault
-  fault-board e = rw e
+    pub board-right : not t ≡ false → 0 ≡ boardFault gate handed
+    unfolding boardFault
+    board-right e = rw (le-ltb 2 gate known, board-is, lists-right n handed t-is e)
 
-  module _ (right : hasLists schedule handed ≡ true) where
-    pub fault-size : (length size ≡ 1 → ⊥) → 100 ≡ callFault schedule handed size present
+-- lists that have no fault are of as many as the gate has marks
+pub board-fits : (gate : ℕ) (handed : Marks) {f : ℕ} → f ≡ boardFault gate handed → f ≡ 0 → haveLength (marksOf (gateNumbered gate)) handed ≡ true
+unfolding boardFault hasLists
+board-fits gate handed is none = go (ltb 2 gate) (haveLength (marksOf (gateNumbered gate)) handed) (sym is ∙ none)
+  where
+    go : (t u : Bool) → _≡_ {A = ℕ} (cond t 103 (cond u 0 100)) 0 → u ≡ true
+    go true u z = absurd (omega arith)
+    go false true z = refl
+    go false false z = absurd (omega arith)
+
+-- ---- the fault of a call with a change
+module _ (gate : ℕ) (handed : Marks) (size : List ℕ) (present : ℕ) where
+  module _ {b : ℕ} (b-is : b ≡ boardFault gate handed) where
+    pub fault-board : (b ≡ 0 → ⊥) → b ≡ callFault gate handed size present
     unfolding callFault
-    fault-size n = rw (right, ne-eqb (length size) 1 n)
+    fault-board some = rw (← b-is, ne-eqb b 0 some)
 
-    module _ (one : length size ≡ 1) where
-      pub fault-present : 1 < present → 101 ≡ callFault schedule handed size present
-      unfolding callFault
-      fault-present l = rw (right, eq-eqb (length size) 1 one, lt-ltb 1 present l)
+    module _ (right : b ≡ 0) where
+      none : boardFault gate handed ≡ 0
+      none = sym b-is ∙ right
 
-      pub fault-none : present ≤ 1 → 0 ≡ callFault schedule handed size present
+      pub fault-size : (length size ≡ 1 → ⊥) → 100 ≡ callFault gate handed size present
       unfolding callFault
-      fault-none l = rw (right, eq-eqb (length size) 1 one, le-ltb 1 present l)
+      fault-size n = rw (none, ne-eqb (length size) 1 n)
+
+      module _ (one : length size ≡ 1) where
+        pub fault-present : 1 < present → 101 ≡ callFault gate handed size present
+        unfolding callFault
+        fault-present l = rw (none, eq-eqb (length size) 1 one, lt-ltb 1 present l)
+
+        pub fault-none : present ≤ 1 → 0 ≡ callFault gate handed size present
+        unfolding callFault
+        fault-none l = rw (none, eq-eqb (length size) 1 one, le-ltb 1 present l)
 
   -- a call without one has a list of 1 for the length
-  pub size-fits : {f : ℕ} → f ≡ callFault schedule handed size present → f ≡ 0 → length size ≡ 1
+  pub size-fits : {f : ℕ} → f ≡ callFault gate handed size present → f ≡ 0 → length size ≡ 1
   unfolding callFault
-  size-fits is none = go (hasLists schedule handed) (eqb (length size) 1) (cond (ltb 1 present) 101 0) refl (sym is ∙ none)
+  size-fits is z =
+      go (eqb (boardFault gate handed) 0) (eqb (length size) 1) (boardFault gate handed) (cond (ltb 1 present) 101 0) refl refl (sym is ∙ z)
     where
-      go : (t u : Bool) (x : ℕ) → eqb (length size) 1 ≡ u → cond (t && u) x 100 ≡ 0 → length size ≡ 1
-      go true true x e z = eqb-true (length size) 1 e
-      go true false x e z = absurd (omega arith)
-      go false u x e z = absurd (omega arith)
+      go : (t u : Bool) (b x : ℕ) → eqb b 0 ≡ t → eqb (length size) 1 ≡ u → cond t (cond u x 100) b ≡ 0 → length size ≡ 1
+      go true true b x q e z = eqb-true (length size) 1 e
+      go true false b x q e z = absurd (omega arith)
+      go false u b x q e z = absurd (true≢false (sym (eq-eqb b 0 z) ∙ q))
 
--- ---- a judgement by the gate of document 01, whose refusal alone is answered
-module _ (s : List ℕ) (handed : Marks) (work : List ℕ) where
-  pub judge-called : {made : Made} {marks : Marks} {last : List ℕ}
-      → (made ≡ madeOf (judgedIn (gateCalled Schedule) s (length work) handed)) × ((marks ≡ judgedIn (gateCalled Schedule) s (length work) handed .marks) × (last ≡ judgeLeft (gateCalled Schedule) s (made .refusal) work))
-      → (made .refusal ≡ judgedIn schedule s (length work) handed .refusal) × ((marks ≡ judgedIn schedule s (length work) handed .marks) × (last ≡ judgeLeft schedule s (made .refusal) work))
-  unfolding gateCalled madeOf
-  judge-called (m, (b, w)) = (ap (λ x. x .refusal) m, (b, w))
+-- ---- a judgement, whose refusal alone is answered
+module _ (gate : ℕ) (s : List ℕ) (handed : Marks) (work : List ℕ) where
+  abbrev Judged : ℕ → Marks → List ℕ → Type 0
+  Judged r marks last =
+      (r ≡ judgeCalled gate s (length work) handed .refusal) × ((marks ≡ judgeCalled gate s (length work) handed .marks) × (last ≡ judgeLeft (gateNumbered gate) s r work))
+
+  pub judge-unknown : 2 < gate → Judged 103 handed work
+  unfolding judgeCalled called gateFault judgeLeft workLeft
+  judge-unknown l = rw (lt-ltb 2 gate l) (refl, (refl, refl))
+
+  pub judge-known : gate ≤ 2 → {w : Which} → w ≡ whichOf gate → {made : Made} {marks : Marks} {last : List ℕ}
+      → (made ≡ madeOf (judgedIn (gateCalled w) s (length work) handed)) × ((marks ≡ judgedIn (gateCalled w) s (length work) handed .marks) × (last ≡ judgeLeft (gateCalled w) s (made .refusal) work))
+      → Judged (made .refusal) marks last
+  unfolding judgeCalled called gateFault madeOf
+  judge-known known e (m, (b, w)) = rw (le-ltb 2 gate known, ← e) (ap (λ x. x .refusal) m, (b, w))
 
 -- ---- a list where a call is refused, and where it isn't
 module _ (new old : List ℕ) (refusal : ℕ) where
@@ -102,18 +131,18 @@ module _ (fault : ℕ) (handed : Marks) (whole : Answer) (size : List ℕ) {f : 
   ends-well none m b r-is last-is =
       rw (← is, eq-eqb f 0 none) (r-is ∙ ap (λ x. x .refusal) m, (b, last-is ∙ ap (λ x. unlessRefused (x .refusal) (set size 0 (x .length)) size) m))
 
-module _ (s : List ℕ) (file present : ℕ) (bytes : List ℕ) (handed : Marks) (size work : List ℕ) {f : ℕ} (is : f ≡ callFault schedule handed size present) where
+module _ (gate : ℕ) (s : List ℕ) (file present : ℕ) (bytes : List ℕ) (handed : Marks) (size work : List ℕ) {f : ℕ} (is : f ≡ callFault gate handed size present) where
   abbrev Left : ℕ → List ℕ → Type 0
-  Left r last = last ≡ changeLeft schedule s file (fileHanded present bytes) r work
+  Left r last = last ≡ changeLeft (gateNumbered gate) s file (fileHanded present bytes) r work
 
   untouched : (f ≡ 0 → ⊥) → Left f work
   unfolding changeLeft
-  untouched some = work-untouched schedule (Change file) (filesAfter s file (fileHanded present bytes)) work f some
+  untouched some = work-untouched (gateNumbered gate) (Change file) (filesAfter s file (fileHanded present bytes)) work f some
 
   -- ---- a try
   module _ where
     abbrev tried : Answer
-    tried = tryCalled schedule s file present bytes size (length work) handed
+    tried = tryCalled gate s file present bytes size (length work) handed
 
     abbrev Tried : ℕ → Marks → List ℕ → List ℕ → Type 0
     Tried r marks last left = (r ≡ tried .refusal) × ((marks ≡ tried .marks) × ((last ≡ sizeAfter tried size) × Left r left))
@@ -121,66 +150,71 @@ module _ (s : List ℕ) (file present : ℕ) (bytes : List ℕ) (handed : Marks)
     pub try-ill : (f ≡ 0 → ⊥) → Tried f handed size work
     unfolding tryCalled Ends
     try-ill some =
-        let e = ends-ill (callFault schedule handed size present) handed (triedIn schedule s file (fileHanded present bytes) (length work) handed) size is some in
+        let e = ends-ill (callFault gate handed size present) handed (triedIn (gateNumbered gate) s file (fileHanded present bytes) (length work) handed) size is some in
         (e .0, (e .1 .0, (e .1 .1, untouched some)))
 
-    pub try-well : f ≡ 0 → {made : Made} {r : ℕ} {marks : Marks} {last left : List ℕ}
-        → (made ≡ madeOf (triedIn (gateCalled Schedule) s file (fileHanded present bytes) (length work) handed)) × ((marks ≡ triedIn (gateCalled Schedule) s file (fileHanded present bytes) (length work) handed .marks) × (left ≡ changeLeft (gateCalled Schedule) s file (fileHanded present bytes) (made .refusal) work))
+    pub try-well : f ≡ 0 → {w : Which} → w ≡ whichOf gate → {made : Made} {r : ℕ} {marks : Marks} {last left : List ℕ}
+        → (made ≡ madeOf (triedIn (gateCalled w) s file (fileHanded present bytes) (length work) handed)) × ((marks ≡ triedIn (gateCalled w) s file (fileHanded present bytes) (length work) handed .marks) × (left ≡ changeLeft (gateCalled w) s file (fileHanded present bytes) (made .refusal) work))
         → (r ≡ made .refusal) × (last ≡ unlessRefused (made .refusal) (set size 0 (made .length)) size)
         → Tried r marks last left
-    unfolding tryCalled Ends gateCalled
-    try-well none (m, (b, w)) (r-is, last-is) =
-        let e = ends-well (callFault schedule handed size present) handed (triedIn schedule s file (fileHanded present bytes) (length work) handed) size is none m b r-is last-is in
-        (e .0, (e .1 .0, (e .1 .1, w ∙ ap (λ x. changeLeft schedule s file (fileHanded present bytes) x work) (sym r-is))))
+    unfolding tryCalled Ends
+    try-well none w-is h (r-is, last-is) =
+        let g = rw w-is at h in
+        let e = ends-well (callFault gate handed size present) handed (triedIn (gateNumbered gate) s file (fileHanded present bytes) (length work) handed) size is none (g .0) (g .1 .0) r-is last-is in
+        (e .0, (e .1 .0, (e .1 .1, g .1 .1 ∙ ap (λ x. changeLeft (gateNumbered gate) s file (fileHanded present bytes) x work) (sym r-is))))
 
   -- ---- a change made
   module _ (out : List ℕ) where
     abbrev changed : Answer
-    changed = makeCalled schedule s file present bytes (length out) size (length work) handed
+    changed = makeCalled gate s file present bytes (length out) size (length work) handed
 
     abbrev Changed : ℕ → Marks → List ℕ → List ℕ → List ℕ → Type 0
     Changed r marks written last left =
-        (r ≡ changed .refusal) × ((marks ≡ changed .marks) × ((written ≡ outputCalled schedule s file present bytes out size (length work) handed) × ((last ≡ sizeAfter changed size) × Left r left)))
+        (r ≡ changed .refusal) × ((marks ≡ changed .marks) × ((written ≡ outputCalled gate s file present bytes out size (length work) handed) × ((last ≡ sizeAfter changed size) × Left r left)))
 
     pub make-ill : (f ≡ 0 → ⊥) → Changed f handed out size work
     unfolding makeCalled outputCalled Ends
     make-ill some =
-        let e = ends-ill (callFault schedule handed size present) handed (madeIn schedule s file (fileHanded present bytes) (length out) (length work) handed) size is some in
+        let e = ends-ill (callFault gate handed size present) handed (madeIn (gateNumbered gate) s file (fileHanded present bytes) (length out) (length work) handed) size is some in
         (e .0, (e .1 .0, (sym (kept _ out _ (λ z. some (is ∙ z))), (e .1 .1, untouched some))))
 
-    pub make-well : f ≡ 0 → {made : Made} {r : ℕ} {marks : Marks} {written last left : List ℕ}
-        → (made ≡ madeOf (madeIn (gateCalled Schedule) s file (fileHanded present bytes) (length out) (length work) handed)) × ((marks ≡ madeIn (gateCalled Schedule) s file (fileHanded present bytes) (length out) (length work) handed .marks) × ((written ≡ outputIn (gateCalled Schedule) s file (fileHanded present bytes) (length work) handed out) × (left ≡ changeLeft (gateCalled Schedule) s file (fileHanded present bytes) (made .refusal) work)))
+    pub make-well : f ≡ 0 → {w : Which} → w ≡ whichOf gate → {made : Made} {r : ℕ} {marks : Marks} {written last left : List ℕ}
+        → (made ≡ madeOf (madeIn (gateCalled w) s file (fileHanded present bytes) (length out) (length work) handed)) × ((marks ≡ madeIn (gateCalled w) s file (fileHanded present bytes) (length out) (length work) handed .marks) × ((written ≡ outputIn (gateCalled w) s file (fileHanded present bytes) (length work) handed out) × (left ≡ changeLeft (gateCalled w) s file (fileHanded present bytes) (made .refusal) work)))
         → (r ≡ made .refusal) × (last ≡ unlessRefused (made .refusal) (set size 0 (made .length)) size)
         → Changed r marks written last left
-    unfolding makeCalled outputCalled Ends gateCalled
-    make-well none (m, (b, (o, w))) (r-is, last-is) =
-        let e = ends-well (callFault schedule handed size present) handed (madeIn schedule s file (fileHanded present bytes) (length out) (length work) handed) size is none m b r-is last-is in
-        (e .0, (e .1 .0, (o ∙ sym (replaced _ out _ (sym is ∙ none)), (e .1 .1, w ∙ ap (λ x. changeLeft schedule s file (fileHanded present bytes) x work) (sym r-is)))))
+    unfolding makeCalled outputCalled Ends
+    make-well none w-is h (r-is, last-is) =
+        let g = rw w-is at h in
+        let e = ends-well (callFault gate handed size present) handed (madeIn (gateNumbered gate) s file (fileHanded present bytes) (length out) (length work) handed) size is none (g .0) (g .1 .0) r-is last-is in
+        (e .0, (e .1 .0, (g .1 .1 .0 ∙ sym (replaced _ out _ (sym is ∙ none)), (e .1 .1, g .1 .1 .1 ∙ ap (λ x. changeLeft (gateNumbered gate) s file (fileHanded present bytes) x work) (sym r-is)))))
 
 -- ---- the text
-module _ (refusal : ℕ) (handed : Marks) (out : List ℕ) where
+module _ (gate refusal : ℕ) (handed : Marks) (out : List ℕ) {b : ℕ} (b-is : b ≡ boardFault gate handed) where
   abbrev Text : ℕ → List ℕ → Type 0
   Text r last =
-      (r ≡ length (textCalled schedule refusal handed (length out))) × (last ≡ textCalled schedule refusal handed (length out) ++ drop (length (textCalled schedule refusal handed (length out))) out)
+      (r ≡ length (textCalled gate refusal handed (length out))) × (last ≡ textCalled gate refusal handed (length out) ++ drop (length (textCalled gate refusal handed (length out))) out)
 
-  pub text-ill : hasLists schedule handed ≡ false → Text 0 out
+  pub text-ill : (b ≡ 0 → ⊥) → Text 0 out
   unfolding textCalled
-  text-ill e = rw e (refl, refl)
+  text-ill some = rw (← b-is, ne-eqb b 0 some) (refl, refl)
 
-  pub text-well : hasLists schedule handed ≡ true → {r : ℕ} {last : List ℕ} → r ≡ length (textIn refusal handed (length out)) → last ≡ textIn refusal handed (length out) ++ drop (length (textIn refusal handed (length out))) out → Text r last
+  pub text-well : b ≡ 0 → {r : ℕ} {last : List ℕ} → r ≡ length (textIn refusal handed (length out)) → last ≡ textIn refusal handed (length out) ++ drop (length (textIn refusal handed (length out))) out → Text r last
   unfolding textCalled
-  text-well e r-is last-is = rw e (r-is, last-is)
+  text-well none r-is last-is = rw (← b-is, eq-eqb b 0 none) (r-is, last-is)
 
 -- ---- a fresh board
-module _ (handed : Marks) where
+module _ (gate : ℕ) (handed : Marks) {b : ℕ} (b-is : b ≡ boardFault gate handed) where
   abbrev Fresh : ℕ → Marks → Type 0
-  Fresh r last = (r ≡ freshFault schedule handed) × (last ≡ freshCalled schedule handed)
+  Fresh r last = (r ≡ boardFault gate handed) × (last ≡ freshCalled gate handed)
 
-  pub fresh-ill : hasLists schedule handed ≡ false → Fresh 100 handed
-  unfolding freshFault freshCalled
-  fresh-ill e = rw e (refl, refl)
+  pub fresh-ill : (b ≡ 0 → ⊥) → Fresh b handed
+  unfolding freshCalled
+  fresh-ill some = (b-is, rw (← b-is, ne-eqb b 0 some))
 
-  pub fresh-well : haveLength 81 handed ≡ true → {last : Marks} → last ≡ freshOver handed → Fresh 0 last
-  unfolding freshFault freshCalled hasLists
-  fresh-well e last-is =
-      rw (marks-are, e) (refl, last-is ∙ fresh-over handed (rw (lists-long 81 handed e .kinds-long) e) ∙ ap freshMarks (lists-long 81 handed e .kinds-long))
+  pub fresh-well : b ≡ 0 → {last : Marks} → last ≡ freshOver handed → Fresh 0 last
+  unfolding freshCalled
+  fresh-well none last-is =
+      let n = marksOf (gateNumbered gate) in
+      let e = board-fits gate handed b-is none in
+      let long = lists-long n handed e .kinds-long in
+      (sym none ∙ b-is, rw (← b-is, eq-eqb b 0 none) (last-is ∙ fresh-over handed (rw long e) ∙ ap freshMarks long))

@@ -1,98 +1,96 @@
--- What the call for a mark's reason answers: with a fault of its own, refused, and told. And the name of a field, read from the
--- document's rows.
+-- What the call for a mark's reason answers: with a fault of its own, refused, and told. And the name of a field.
 -- Assumes nothing.
-use Prim.Native.Nat.{ℕ, _+_, _≤_, _<_}
+use Prim.Native.Nat.{ℕ, _≤_, _<_}
 use mathlib.Core.Path.{_≡_, refl, sym, ap, _∙_}
-use mathlib.Core.Bool.{true}
-use mathlib.Core.List.{List, [], map}
-use native.Mathlib.Omega.{arith}
-use borrow.Author.Tests.{eq-eqb, ne-eqb}
-use lib.ListN.{length, getD, length-map, List·getD-map, List·getD-eq-default}
+use mathlib.Core.Bool.{Bool, true}
+use mathlib.Core.List.{List, []}
+use borrow.Author.Tests.{eq-eqb, ne-eqb, lt-ltb, le-ltb, leb-true}
+use lib.ListN.{length, getD}
+use lib.Dec.{leb}
 use Rattle.reason_answer.specs.declared.Reason.{Reason}
 use Rattle.reason_answer.specs.declared.Reason.the-variants.{Refused}
 use Rattle.reason_numbers.specs.Numbers.{toldNumbers, toldOver}
-use Rattle.table_rows.specs.Rows.{Field, nameAt, fieldAt, rowsAfter, firstField, fieldCount}
-use Rattle.table_rows.proofs.Laws.{fields-at}
-use Rattle.table_fields.specs.Fields.{fieldsOf}
-use Rattle.table_fields.specs.Flat.{fieldRows, fieldNames}
-use Rattle.table_fields.proofs.Facts.{count-back, file-fields}
+use Rattle.parts.specs.Part.{partOf}
+use Rattle.table_rows.specs.Ascii.{codes}
+use Rattle.table_rows.specs.Rows.{Field}
+use Rattle.table_rows.proofs.Laws.{all, all-total}
+use Rattle.table_fields.specs.Fields.{tables, fieldsOf}
+use Rattle.contract_fields.specs.Fields.{contractTables, contractFieldsOf}
+use Rattle.output.specs.Output.{outputAt, put}
 use Rattle.gate_calls.specs.Lent.{workLeft}
 use Rattle.gate_calls.specs.Reasons.{reasonAsked, refusalOf, reasonLeft}
-use Rattle.schedule.specs.Schedule.{schedule}
-use Rattle.gate_lists.specs.declared.Which.the-variants.{Schedule}
+use Rattle.gate_lists.specs.declared.Which.{Which}
+use Rattle.gate_lists.specs.declared.Which.the-variants.{Schedule, Baseline, Contract}
 use Rattle.gate_lists.specs.Which.{gateCalled}
-use Rattle.bundle_bytes.specs.Pieces.{written}
-use Rattle.bundle_bytes.proofs.Laws.{written-fits}
-use Rattle.gate_c.specs.Calls.{unlessRefused, lengthIn}
-use Rattle.gate_c.specs.Reasons.{reasonCalled, fieldNameOf}
+use Rattle.gate_names.specs.Names.{noField, nameAmong, tableFields, fieldNameOf}
+use Rattle.gate_c.specs.Calls.{unlessRefused, whichOf, gateNumbered}
+use Rattle.gate_c.specs.Reasons.{reasonCalled, fieldNamed}
 use Rattle.gate_c.proofs.Laws.{kept, replaced}
-use Rattle.gate_c.proofs.Files.{front-well}
+use Rattle.gate_c.proofs.Files.{room, name-read}
 
 -- ---- the reason of a mark
-module _ (s : List ℕ) (mark : ℕ) (told work : List ℕ) where
+module _ (gate : ℕ) (s : List ℕ) (mark : ℕ) (told work : List ℕ) where
   abbrev asked : Reason
-  asked = reasonCalled schedule s mark told (length work)
+  asked = reasonCalled gate s mark told (length work)
 
   abbrev Told : ℕ → List ℕ → List ℕ → Type 0
   Told r last left =
-      (r ≡ refusalOf asked) × ((last ≡ unlessRefused r (toldNumbers asked) told) × (left ≡ reasonLeft schedule s mark asked work))
+      (r ≡ refusalOf asked) × ((last ≡ unlessRefused r (toldNumbers asked) told) × (left ≡ reasonLeft (gateNumbered gate) s mark asked work))
 
-  called-ill : (length told ≡ 9 → ⊥) → asked ≡ Refused 100
-  unfolding reasonCalled
-  called-ill n = rw (ne-eqb _ 9 n)
+  pub told-unknown : 2 < gate → Told 103 told work
+  unfolding reasonCalled refusalOf unlessRefused reasonLeft workLeft
+  told-unknown l = rw (lt-ltb 2 gate l) (refl, (refl, refl))
 
-  pub told-ill : (length told ≡ 9 → ⊥) → Told 100 told work
-  unfolding refusalOf unlessRefused reasonLeft workLeft
-  told-ill n = rw (called-ill n) (refl, (refl, refl))
+  module _ (known : gate ≤ 2) where
+    pub told-ill : (length told ≡ 9 → ⊥) → Told 100 told work
+    unfolding reasonCalled refusalOf unlessRefused reasonLeft workLeft
+    told-ill n = rw (le-ltb 2 gate known, ne-eqb (length told) 9 n) (refl, (refl, refl))
 
-  -- with a list of nine the call is the gate's own
-  module _ (nine : length told ≡ 9) {x : Reason} {left : List ℕ} (is : (x ≡ reasonAsked (gateCalled Schedule) s (length work) mark) × (left ≡ reasonLeft (gateCalled Schedule) s mark x work)) {f : ℕ} (f-is : f ≡ refusalOf x) where
-    called-well : x ≡ asked
-    unfolding reasonCalled gateCalled
-    called-well = rw (eq-eqb _ 9 nine) (is .0)
+    -- with a list of nine the call is the gate's own
+    module _ (nine : length told ≡ 9) {w : Which} (w-is : w ≡ whichOf gate) {x : Reason} {left : List ℕ}
+        (is : (x ≡ reasonAsked (gateCalled w) s (length work) mark) × (left ≡ reasonLeft (gateCalled w) s mark x work)) {f : ℕ} (f-is : f ≡ refusalOf x) where
+      called-well : x ≡ asked
+      unfolding reasonCalled
+      called-well = rw (le-ltb 2 gate known, eq-eqb (length told) 9 nine, ← w-is) (is .0)
 
-    left-well : left ≡ reasonLeft schedule s mark asked work
-    unfolding gateCalled
-    left-well = is .1 ∙ ap (λ y. reasonLeft schedule s mark y work) called-well
+      left-well : left ≡ reasonLeft (gateNumbered gate) s mark asked work
+      left-well = is .1 ∙ ap (λ v. reasonLeft (gateCalled v) s mark x work) w-is ∙ ap (λ y. reasonLeft (gateNumbered gate) s mark y work) called-well
 
-    pub told-refused : (f ≡ 0 → ⊥) → Told f told left
-    told-refused some = (f-is ∙ ap refusalOf called-well, (sym (kept (toldNumbers asked) told f some), left-well))
+      pub told-refused : (f ≡ 0 → ⊥) → Told f told left
+      told-refused some = (f-is ∙ ap refusalOf called-well, (sym (kept (toldNumbers asked) told f some), left-well))
 
-    pub told-well : f ≡ 0 → {last : List ℕ} → last ≡ toldOver x told → Told 0 last left
-    unfolding toldOver
-    told-well none e =
-        (sym none ∙ f-is ∙ ap refusalOf called-well, (rw (eq-eqb _ 9 nine) at e ∙ ap toldNumbers called-well ∙ sym (replaced (toldNumbers asked) told 0 refl), left-well))
+      pub told-well : f ≡ 0 → {last : List ℕ} → last ≡ toldOver x told → Told 0 last left
+      unfolding toldOver
+      told-well none e =
+          (sym none ∙ f-is ∙ ap refusalOf called-well, (rw (eq-eqb _ 9 nine) at e ∙ ap toldNumbers called-well ∙ sym (replaced (toldNumbers asked) told 0 refl), left-well))
 
--- ---- the name of a field
-abbrev noField : Field
-noField = record { name = []; type = 0; nullable = true }
+-- ---- the name of a field: computed over all of them
+abbrev short : Field → Bool
+short f = leb (length (f .name)) 36
 
-pub no-name : (file field : ℕ) → fieldCount fieldRows file ≤ field → [] ≡ fieldNameOf file field
-unfolding fieldNameOf
-no-name file field h =
-    sym (List·getD-eq-default (map (λ f. f .name) (fieldsOf file)) [] {n = field} (omega (arith, length-map (fieldsOf file) (λ f. f .name), count-back file)))
+fields-short : all (all short) tables ≡ true
+unfolding all tables codes
+fields-short = refl
 
-pub name-there : (file field : ℕ) → field < fieldCount fieldRows file → nameAt (rowsAfter fieldRows (firstField fieldRows file)) fieldNames field ≡ fieldNameOf file field
-unfolding fieldNameOf fieldAt
-name-there file field h =
-    let own = rowsAfter fieldRows (firstField fieldRows file) in
-    let z : field ≡ 0 + field = omega arith in
-    ap (nameAt own fieldNames) z
-    ∙ ap (λ f. f .name) (sym (fields-at own fieldNames noField (fieldCount fieldRows file) 0 field h))
-    ∙ ap (λ l. getD l field noField .name) (file-fields file)
-    ∙ sym (List·getD-map (λ f. f .name) (fieldsOf file) field noField)
+contract-fields-short : all (all short) contractTables ≡ true
+unfolding all contractTables codes
+contract-fields-short = refl
 
--- as the code reads it
-pub name-from : (file field : ℕ) {rows own names r : List ℕ} {first count : ℕ} → rows ≡ fieldRows → names ≡ fieldNames → count ≡ fieldCount rows file → field < count → first ≡ firstField rows file → own ≡ rowsAfter rows first → r ≡ nameAt own names field → r ≡ fieldNameOf file field
-name-from file field rows-are names-are c-is h f-is own-is r-is =
-    r-is ∙ rw (own-is, f-is, names-are, rows-are) (name-there file field (rw (← rows-are, ← c-is) h))
+name-short : (given : List (List Field)) → all (all short) given ≡ true → (file field : ℕ) → length (nameAmong (getD given file []) field) ≤ 36
+unfolding nameAmong all
+name-short given e file field =
+    leb-true _ 36 (all-total short noField (getD given file []) (all-total (all short) [] given e refl file) refl field)
 
-pub none-there : (file field : ℕ) {count : ℕ} {rows : List ℕ} → rows ≡ fieldRows → count ≡ fieldCount rows file → count ≤ field → fieldCount fieldRows file ≤ field
-none-there file field rows-are c-is h = rw (← rows-are, ← c-is) h
+field-short : (which : Which) (file field : ℕ) → length (fieldNameOf which file field) ≤ 36
+unfolding fieldNameOf tableFields fieldsOf contractFieldsOf
+field-short Schedule file field = name-short tables fields-short file field
+field-short Baseline file field = name-short tables fields-short file field
+field-short Contract file field = name-short contractTables contract-fields-short file field
 
--- no name: nothing is written
-pub front-empty : (out : List ℕ) {name : List ℕ} → [] ≡ name → (0 ≡ lengthIn out name) × (out ≡ written out 0 name)
-front-empty out e = rw (← e) (front-well out [] (omega arith) (nothing-written out))
-  where
-    nothing-written : (out : List ℕ) → out ≡ written out 0 []
-    nothing-written out = sym (written-fits out 0 [] (omega arith))
+pub field-unknown : (gate file field : ℕ) → 2 < gate → [] ≡ fieldNamed gate file field
+unfolding fieldNamed
+field-unknown gate file field l = rw (lt-ltb 2 gate l)
+
+pub field-named : (gate file field : ℕ) → gate ≤ 2 → {w : Which} → w ≡ whichOf gate → {d r : List ℕ} {end : ℕ} → outputAt d end ≡ put (outputAt room 0) (fieldNameOf w file field) → r ≡ partOf d 0 end → r ≡ fieldNamed gate file field
+unfolding fieldNamed
+field-named gate file field known {w} e h q = name-read (field-short w file field) h q ∙ rw (le-ltb 2 gate known, ← e)

@@ -1,32 +1,33 @@
-// The gate for programs in other languages: numbers and lent lists in, a number out. A board is three
-// lists of 81. A call whose lists have other lengths than they must have answers 100 and writes
-// nothing. Judging, trying, making and telling a reason are done in the lent workspace `work`: one that
+// The gates for programs in other languages: numbers and lent lists in, a number out. The first number
+// says which gate. A board is three lists of as many numbers as it has marks. A call whose lists have
+// other lengths than they must have answers 100 and writes nothing. Judging, trying, making and telling a reason are done in the lent workspace `work`: one that
 // is too short is refused as 14, and what they leave in it may be lent again.
 ghost use mathlib.Core.Path.{_≡_};
 ghost use mathlib.Core.List.{_++_};
 ghost use lib.ListN.{length, drop, set};
 ghost use Rattle.mark_numbers.specs.Marks.{marksIn, faultsIn};
 ghost use Rattle.reason_numbers.specs.Numbers.{toldNumbers};
-ghost use Rattle.table_rows.specs.Rows.{nameAt};
 ghost use Rattle.bundle_bytes.specs.Pieces.{written};
 ghost use Rattle.bundle_layout.specs.Put.{emptyBundle};
-ghost use Rattle.gate_calls.specs.Lent.{judgedIn, judgeLeft, changeLeft};
+ghost use Rattle.gate_calls.specs.Lent.{judgeLeft, changeLeft};
 ghost use Rattle.gate_calls.specs.Reasons.{refusalOf, reasonLeft};
-ghost use Rattle.schedule.specs.Schedule.{schedule};
-ghost use Rattle.gate_c.specs.Calls.{unlessRefused, callFault, fileHanded, tryCalled, makeCalled, outputCalled, sizeAfter, textCalled, freshFault, freshCalled, fileFault, presentNumber, placeOf, nameOf, lengthIn};
-ghost use Rattle.gate_c.specs.Reasons.{reasonCalled, fieldNameOf};
+ghost use Rattle.gate_c.specs.Calls.{unlessRefused, whichOf, gateNumbered, boardFault, judgeCalled, callFault, fileHanded, tryCalled, makeCalled, outputCalled, sizeAfter, textCalled, freshCalled, fileFault, presentNumber, placeOf, emptyOf, nameOf, lengthIn};
+ghost use Rattle.gate_c.specs.Reasons.{reasonCalled, fieldNamed};
 use bundle::Made;
 use bundle::is_omitted;
 use bundle::length_at;
 use bundle::lookup_fault;
 use bundle::offset_at;
 use bundle_bytes::put_part;
-use file_names::put_path;
 use gate_lists::Which;
+use gate_lists::file_count;
 use gate_lists::judge_lists;
 use gate_lists::make_lists;
+use gate_lists::mark_count;
 use gate_lists::reason_lists;
 use gate_lists::try_lists;
+use gate_names::put_field_of;
+use gate_names::put_file_of;
 use mark_numbers::count_faults;
 use mark_numbers::have_length;
 use mark_numbers::make_fresh;
@@ -34,26 +35,50 @@ use parts::part;
 use reason_answer::Reason;
 use reason_numbers::put_reason;
 use report::report;
-use table_fields::field_names;
-use table_fields::field_rows;
-use table_rows::field_count;
-use table_rows::first_field;
-use table_rows::name_end;
-use table_rows::name_start;
-use table_rows::rows_after;
 
-// What is wrong with the lists and numbers of a call with a change, 100 or 101, or 0.
+// ---- The gates by their numbers: 0 is document 01's, 1 its baseline profile, 2 the contract side. Every
+// call that asks for a number refuses any other as 103.
+
+fn which_of(gate: u32) -> Which
+    ensures { λ r. ⌜ r ≡ whichOf gate ⌝ }
+{
+    if gate == 2 {
+        return Which::Contract;
+    }
+    if gate == 1 {
+        return Which::Baseline;
+    }
+    Which::Schedule
+}
+
+// 103 for a number that is no gate's, 100 where a list has another length than the gate has marks, or 0.
+fn board_fault(gate: u32, kinds: &[u32], places: &[usize], companions: &[usize]) -> u32
+    ensures { λ r. ⌜ r ≡ boardFault gate (marksIn (now (kinds .entry)) (now (places .entry)) (now (companions .entry))) ⌝ }
+{
+    if 2 < gate {
+        return 103;
+    }
+    let n = mark_count(which_of(gate));
+    if !have_length(n, kinds, places, companions) {
+        return 100;
+    }
+    0
+}
+
+// What is wrong with the numbers and lists of a call with a change, 103, 100 or 101, or 0.
 fn call_fault(
+    gate: u32,
     kinds: &[u32],
     places: &[usize],
     companions: &[usize],
     size: &[usize],
     present: u32,
 ) -> u32
-    ensures { λ r. ⌜ r ≡ callFault schedule (marksIn (now (kinds .entry)) (now (places .entry)) (now (companions .entry))) (now (size .entry)) present ⌝ }
+    ensures { λ r. ⌜ r ≡ callFault gate (marksIn (now (kinds .entry)) (now (places .entry)) (now (companions .entry))) (now (size .entry)) present ⌝ }
 {
-    if !have_length(81, kinds, places, companions) {
-        return 100;
+    let fault = board_fault(gate, kinds, places, companions);
+    if fault != 0 {
+        return fault;
     }
     if size.len() != 1 {
         return 100;
@@ -81,17 +106,21 @@ fn put_size(made: Made, size: &mut [usize]) -> u32
 // Judges a bundle in full: the refusal or 0; its marks go to the board.
 #[no_mangle]
 pub extern "C" fn knotsaddle_judge(
+    gate: u32,
     bundle: &[u8],
     kinds: &mut [u32],
     places: &mut [usize],
     companions: &mut [usize],
     work: &mut [u32],
 ) -> u32
-    ensures { λ r. ⌜ r ≡ judgedIn schedule (now (bundle .entry)) (length (now (work .entry))) (marksIn (now (kinds .entry)) (now (places .entry)) (now (companions .entry))) .refusal ⌝ }
-    ensures { λ _. ⌜ marksIn (now (kinds .exit)) (now (places .exit)) (now (companions .exit)) ≡ judgedIn schedule (now (bundle .entry)) (length (now (work .entry))) (marksIn (now (kinds .entry)) (now (places .entry)) (now (companions .entry))) .marks ⌝ }
-    ensures { λ r. ⌜ now (work .exit) ≡ judgeLeft schedule (now (bundle .entry)) r (now (work .entry)) ⌝ }
+    ensures { λ r. ⌜ r ≡ judgeCalled gate (now (bundle .entry)) (length (now (work .entry))) (marksIn (now (kinds .entry)) (now (places .entry)) (now (companions .entry))) .refusal ⌝ }
+    ensures { λ _. ⌜ marksIn (now (kinds .exit)) (now (places .exit)) (now (companions .exit)) ≡ judgeCalled gate (now (bundle .entry)) (length (now (work .entry))) (marksIn (now (kinds .entry)) (now (places .entry)) (now (companions .entry))) .marks ⌝ }
+    ensures { λ r. ⌜ now (work .exit) ≡ judgeLeft (gateNumbered gate) (now (bundle .entry)) r (now (work .entry)) ⌝ }
 {
-    judge_lists(Which::Schedule, bundle, work, kinds, places, companions).refusal
+    if 2 < gate {
+        return 103;
+    }
+    judge_lists(which_of(gate), bundle, work, kinds, places, companions).refusal
 }
 
 // Tries a change of a file, to new bytes where `present` is 1 and to none where it is 0; the board that
@@ -99,6 +128,7 @@ pub extern "C" fn knotsaddle_judge(
 // have.
 #[no_mangle]
 pub extern "C" fn knotsaddle_try<'a>(
+    gate: u32,
     bundle: &'a [u8],
     kinds: &mut [u32],
     places: &mut [usize],
@@ -109,17 +139,17 @@ pub extern "C" fn knotsaddle_try<'a>(
     size: &mut [usize],
     work: &mut [u32],
 ) -> u32
-    ensures { λ r. ⌜ r ≡ tryCalled schedule (now (bundle .entry)) file present (now («new_bytes» .entry)) (now (size .entry)) (length (now (work .entry))) (marksIn (now (kinds .entry)) (now (places .entry)) (now (companions .entry))) .refusal ⌝ }
-    ensures { λ _. ⌜ marksIn (now (kinds .exit)) (now (places .exit)) (now (companions .exit)) ≡ tryCalled schedule (now (bundle .entry)) file present (now («new_bytes» .entry)) (now (size .entry)) (length (now (work .entry))) (marksIn (now (kinds .entry)) (now (places .entry)) (now (companions .entry))) .marks ⌝ }
-    ensures { λ _. ⌜ now (size .exit) ≡ sizeAfter (tryCalled schedule (now (bundle .entry)) file present (now («new_bytes» .entry)) (now (size .entry)) (length (now (work .entry))) (marksIn (now (kinds .entry)) (now (places .entry)) (now (companions .entry)))) (now (size .entry)) ⌝ }
-    ensures { λ r. ⌜ now (work .exit) ≡ changeLeft schedule (now (bundle .entry)) file (fileHanded present (now («new_bytes» .entry))) r (now (work .entry)) ⌝ }
+    ensures { λ r. ⌜ r ≡ tryCalled gate (now (bundle .entry)) file present (now («new_bytes» .entry)) (now (size .entry)) (length (now (work .entry))) (marksIn (now (kinds .entry)) (now (places .entry)) (now (companions .entry))) .refusal ⌝ }
+    ensures { λ _. ⌜ marksIn (now (kinds .exit)) (now (places .exit)) (now (companions .exit)) ≡ tryCalled gate (now (bundle .entry)) file present (now («new_bytes» .entry)) (now (size .entry)) (length (now (work .entry))) (marksIn (now (kinds .entry)) (now (places .entry)) (now (companions .entry))) .marks ⌝ }
+    ensures { λ _. ⌜ now (size .exit) ≡ sizeAfter (tryCalled gate (now (bundle .entry)) file present (now («new_bytes» .entry)) (now (size .entry)) (length (now (work .entry))) (marksIn (now (kinds .entry)) (now (places .entry)) (now (companions .entry)))) (now (size .entry)) ⌝ }
+    ensures { λ r. ⌜ now (work .exit) ≡ changeLeft (gateNumbered gate) (now (bundle .entry)) file (fileHanded present (now («new_bytes» .entry))) r (now (work .entry)) ⌝ }
 {
-    let fault = call_fault(kinds, places, companions, size, present);
+    let fault = call_fault(gate, kinds, places, companions, size, present);
     if fault != 0 {
         return fault;
     }
     let tried = try_lists(
-        Which::Schedule,
+        which_of(gate),
         bundle,
         file,
         present == 1,
@@ -136,6 +166,7 @@ pub extern "C" fn knotsaddle_try<'a>(
 // length to `size`.
 #[no_mangle]
 pub extern "C" fn knotsaddle_make<'a>(
+    gate: u32,
     bundle: &'a [u8],
     kinds: &mut [u32],
     places: &mut [usize],
@@ -147,18 +178,18 @@ pub extern "C" fn knotsaddle_make<'a>(
     size: &mut [usize],
     work: &mut [u32],
 ) -> u32
-    ensures { λ r. ⌜ r ≡ makeCalled schedule (now (bundle .entry)) file present (now («new_bytes» .entry)) (length (now (out .entry))) (now (size .entry)) (length (now (work .entry))) (marksIn (now (kinds .entry)) (now (places .entry)) (now (companions .entry))) .refusal ⌝ }
-    ensures { λ _. ⌜ marksIn (now (kinds .exit)) (now (places .exit)) (now (companions .exit)) ≡ makeCalled schedule (now (bundle .entry)) file present (now («new_bytes» .entry)) (length (now (out .entry))) (now (size .entry)) (length (now (work .entry))) (marksIn (now (kinds .entry)) (now (places .entry)) (now (companions .entry))) .marks ⌝ }
-    ensures { λ _. ⌜ now (out .exit) ≡ outputCalled schedule (now (bundle .entry)) file present (now («new_bytes» .entry)) (now (out .entry)) (now (size .entry)) (length (now (work .entry))) (marksIn (now (kinds .entry)) (now (places .entry)) (now (companions .entry))) ⌝ }
-    ensures { λ _. ⌜ now (size .exit) ≡ sizeAfter (makeCalled schedule (now (bundle .entry)) file present (now («new_bytes» .entry)) (length (now (out .entry))) (now (size .entry)) (length (now (work .entry))) (marksIn (now (kinds .entry)) (now (places .entry)) (now (companions .entry)))) (now (size .entry)) ⌝ }
-    ensures { λ r. ⌜ now (work .exit) ≡ changeLeft schedule (now (bundle .entry)) file (fileHanded present (now («new_bytes» .entry))) r (now (work .entry)) ⌝ }
+    ensures { λ r. ⌜ r ≡ makeCalled gate (now (bundle .entry)) file present (now («new_bytes» .entry)) (length (now (out .entry))) (now (size .entry)) (length (now (work .entry))) (marksIn (now (kinds .entry)) (now (places .entry)) (now (companions .entry))) .refusal ⌝ }
+    ensures { λ _. ⌜ marksIn (now (kinds .exit)) (now (places .exit)) (now (companions .exit)) ≡ makeCalled gate (now (bundle .entry)) file present (now («new_bytes» .entry)) (length (now (out .entry))) (now (size .entry)) (length (now (work .entry))) (marksIn (now (kinds .entry)) (now (places .entry)) (now (companions .entry))) .marks ⌝ }
+    ensures { λ _. ⌜ now (out .exit) ≡ outputCalled gate (now (bundle .entry)) file present (now («new_bytes» .entry)) (now (out .entry)) (now (size .entry)) (length (now (work .entry))) (marksIn (now (kinds .entry)) (now (places .entry)) (now (companions .entry))) ⌝ }
+    ensures { λ _. ⌜ now (size .exit) ≡ sizeAfter (makeCalled gate (now (bundle .entry)) file present (now («new_bytes» .entry)) (length (now (out .entry))) (now (size .entry)) (length (now (work .entry))) (marksIn (now (kinds .entry)) (now (places .entry)) (now (companions .entry)))) (now (size .entry)) ⌝ }
+    ensures { λ r. ⌜ now (work .exit) ≡ changeLeft (gateNumbered gate) (now (bundle .entry)) file (fileHanded present (now («new_bytes» .entry))) r (now (work .entry)) ⌝ }
 {
-    let fault = call_fault(kinds, places, companions, size, present);
+    let fault = call_fault(gate, kinds, places, companions, size, present);
     if fault != 0 {
         return fault;
     }
     let made = make_lists(
-        Which::Schedule,
+        which_of(gate),
         bundle,
         file,
         present == 1,
@@ -176,16 +207,17 @@ pub extern "C" fn knotsaddle_make<'a>(
 // length.
 #[no_mangle]
 pub extern "C" fn knotsaddle_report(
+    gate: u32,
     refusal: u32,
     kinds: &[u32],
     places: &[usize],
     companions: &[usize],
     out: &mut [u8],
 ) -> usize
-    ensures { λ r. ⌜ r ≡ length (textCalled schedule refusal (marksIn (now (kinds .entry)) (now (places .entry)) (now (companions .entry))) (length (now (out .entry)))) ⌝ }
-    ensures { λ _. ⌜ now (out .exit) ≡ textCalled schedule refusal (marksIn (now (kinds .entry)) (now (places .entry)) (now (companions .entry))) (length (now (out .entry))) ++ drop (length (textCalled schedule refusal (marksIn (now (kinds .entry)) (now (places .entry)) (now (companions .entry))) (length (now (out .entry))))) (now (out .entry)) ⌝ }
+    ensures { λ r. ⌜ r ≡ length (textCalled gate refusal (marksIn (now (kinds .entry)) (now (places .entry)) (now (companions .entry))) (length (now (out .entry)))) ⌝ }
+    ensures { λ _. ⌜ now (out .exit) ≡ textCalled gate refusal (marksIn (now (kinds .entry)) (now (places .entry)) (now (companions .entry))) (length (now (out .entry))) ++ drop (length (textCalled gate refusal (marksIn (now (kinds .entry)) (now (places .entry)) (now (companions .entry))) (length (now (out .entry))))) (now (out .entry)) ⌝ }
 {
-    if !have_length(81, kinds, places, companions) {
+    if board_fault(gate, kinds, places, companions) != 0 {
         return 0;
     }
     report(refusal, kinds, places, companions, out)
@@ -194,15 +226,17 @@ pub extern "C" fn knotsaddle_report(
 // Makes every mark of a board 'not judged'.
 #[no_mangle]
 pub extern "C" fn knotsaddle_fresh(
+    gate: u32,
     kinds: &mut [u32],
     places: &mut [usize],
     companions: &mut [usize],
 ) -> u32
-    ensures { λ r. ⌜ r ≡ freshFault schedule (marksIn (now (kinds .entry)) (now (places .entry)) (now (companions .entry))) ⌝ }
-    ensures { λ _. ⌜ marksIn (now (kinds .exit)) (now (places .exit)) (now (companions .exit)) ≡ freshCalled schedule (marksIn (now (kinds .entry)) (now (places .entry)) (now (companions .entry))) ⌝ }
+    ensures { λ r. ⌜ r ≡ boardFault gate (marksIn (now (kinds .entry)) (now (places .entry)) (now (companions .entry))) ⌝ }
+    ensures { λ _. ⌜ marksIn (now (kinds .exit)) (now (places .exit)) (now (companions .exit)) ≡ freshCalled gate (marksIn (now (kinds .entry)) (now (places .entry)) (now (companions .entry))) ⌝ }
 {
-    if !have_length(81, kinds, places, companions) {
-        return 100;
+    let fault = board_fault(gate, kinds, places, companions);
+    if fault != 0 {
+        return fault;
     }
     make_fresh(kinds, places, companions);
     0
@@ -219,32 +253,36 @@ fn present_number(bundle: &[u8], file: usize) -> u32
 }
 
 // The refusal of a question for a file, with lists for the answer.
-fn file_fault(bundle: &[u8], file: usize, present: &[u32], place: &[usize]) -> u32
-    ensures { λ r. ⌜ r ≡ fileFault (now (bundle .entry)) file (now (present .entry)) (now (place .entry)) ⌝ }
+fn file_fault(gate: u32, bundle: &[u8], file: usize, present: &[u32], place: &[usize]) -> u32
+    ensures { λ r. ⌜ r ≡ fileFault gate (now (bundle .entry)) file (now (present .entry)) (now (place .entry)) ⌝ }
 {
+    if 2 < gate {
+        return 103;
+    }
     if present.len() != 1 {
         return 100;
     }
     if place.len() != 2 {
         return 100;
     }
-    lookup_fault(bundle, 20, file)
+    lookup_fault(bundle, file_count(which_of(gate)), file)
 }
 
 // Asks for a file by number: its refusal or 0. `present` gets 1 if the file is there and 0 if it is
 // omitted, `place` the start and the length of its part of the bundle.
 #[no_mangle]
 pub extern "C" fn knotsaddle_file(
+    gate: u32,
     bundle: &[u8],
     file: usize,
     present: &mut [u32],
     place: &mut [usize],
 ) -> u32
-    ensures { λ r. ⌜ r ≡ fileFault (now (bundle .entry)) file (now (present .entry)) (now (place .entry)) ⌝ }
+    ensures { λ r. ⌜ r ≡ fileFault gate (now (bundle .entry)) file (now (present .entry)) (now (place .entry)) ⌝ }
     ensures { λ r. ⌜ now (present .exit) ≡ unlessRefused r (set (now (present .entry)) 0 (presentNumber (now (bundle .entry)) file)) (now (present .entry)) ⌝ }
     ensures { λ r. ⌜ now (place .exit) ≡ unlessRefused r (placeOf (now (bundle .entry)) file (now (place .entry))) (now (place .entry)) ⌝ }
 {
-    let answer = file_fault(bundle, file, present, place);
+    let answer = file_fault(gate, bundle, file, present, place);
     if answer != 0 {
         return answer;
     }
@@ -257,12 +295,21 @@ pub extern "C" fn knotsaddle_file(
     0
 }
 
-// The bundle with no files.
+// The bundle with no files, of a gate with twenty.
 fn empty_bundle() -> [u8; 164]
     ensures { λ r. ⌜ r ≡ emptyBundle 20 ⌝ }
 {
     let mut bundle = [0u8; 164];
     bundle[0] = 20;
+    bundle
+}
+
+// That of the contract side, with four.
+fn empty_contract() -> [u8; 36]
+    ensures { λ r. ⌜ r ≡ emptyBundle 4 ⌝ }
+{
+    let mut bundle = [0u8; 36];
+    bundle[0] = 4;
     bundle
 }
 
@@ -279,12 +326,19 @@ fn put_front(out: &mut [u8], text: &[u8]) -> usize
 }
 
 // Writes the bundle with no files to the front of `out` and answers its length; 0 and nothing written
-// where `out` is shorter.
+// for a number that is no gate's and where `out` is shorter.
 #[no_mangle]
-pub extern "C" fn knotsaddle_empty(out: &mut [u8]) -> usize
-    ensures { λ r. ⌜ r ≡ lengthIn (now (out .entry)) (emptyBundle 20) ⌝ }
-    ensures { λ _. ⌜ now (out .exit) ≡ written (now (out .entry)) 0 (emptyBundle 20) ⌝ }
+pub extern "C" fn knotsaddle_empty(gate: u32, out: &mut [u8]) -> usize
+    ensures { λ r. ⌜ r ≡ lengthIn (now (out .entry)) (emptyOf gate) ⌝ }
+    ensures { λ _. ⌜ now (out .exit) ≡ written (now (out .entry)) 0 (emptyOf gate) ⌝ }
 {
+    if 2 < gate {
+        return 0;
+    }
+    if gate == 2 {
+        let four = empty_contract();
+        return put_front(out, &four);
+    }
     let bundle = empty_bundle();
     put_front(out, &bundle)
 }
@@ -298,15 +352,18 @@ pub extern "C" fn knotsaddle_faults(kinds: &[u32]) -> usize
 }
 
 // Writes the name of a file to the front of `out` and answers its length; 0 and nothing written for a
-// number over 19 and where `out` is shorter.
+// number that is no gate's or no file's and where `out` is shorter.
 #[no_mangle]
-pub extern "C" fn knotsaddle_file_name(file: usize, out: &mut [u8]) -> usize
-    ensures { λ r. ⌜ r ≡ lengthIn (now (out .entry)) (nameOf file) ⌝ }
-    ensures { λ _. ⌜ now (out .exit) ≡ written (now (out .entry)) 0 (nameOf file) ⌝ }
+pub extern "C" fn knotsaddle_file_name(gate: u32, file: usize, out: &mut [u8]) -> usize
+    ensures { λ r. ⌜ r ≡ lengthIn (now (out .entry)) (nameOf gate file) ⌝ }
+    ensures { λ _. ⌜ now (out .exit) ≡ written (now (out .entry)) 0 (nameOf gate file) ⌝ }
 {
-    let mut path = [0u8; 36];
-    let end = put_path(&mut path, 0, file);
-    put_front(out, part(&path, 1, end))
+    if 2 < gate {
+        return 0;
+    }
+    let mut name = [0u8; 36];
+    let end = put_file_of(which_of(gate), &mut name, 0, file);
+    put_front(out, part(&name, 0, end))
 }
 
 // ---- The reason of a mark
@@ -334,19 +391,23 @@ fn refusal_of(told: Reason) -> u32
 // What is told of a mark of a bundle: the refusal or 0; `told` gets its nine numbers.
 #[no_mangle]
 pub extern "C" fn knotsaddle_reason(
+    gate: u32,
     bundle: &[u8],
     mark: usize,
     told: &mut [usize],
     work: &mut [u32],
 ) -> u32
-    ensures { λ r. ⌜ r ≡ refusalOf (reasonCalled schedule (now (bundle .entry)) mark (now (told .entry)) (length (now (work .entry)))) ⌝ }
-    ensures { λ r. ⌜ now (told .exit) ≡ unlessRefused r (toldNumbers (reasonCalled schedule (now (bundle .entry)) mark (now (told .entry)) (length (now (work .entry))))) (now (told .entry)) ⌝ }
-    ensures { λ _. ⌜ now (work .exit) ≡ reasonLeft schedule (now (bundle .entry)) mark (reasonCalled schedule (now (bundle .entry)) mark (now (told .entry)) (length (now (work .entry)))) (now (work .entry)) ⌝ }
+    ensures { λ r. ⌜ r ≡ refusalOf (reasonCalled gate (now (bundle .entry)) mark (now (told .entry)) (length (now (work .entry)))) ⌝ }
+    ensures { λ r. ⌜ now (told .exit) ≡ unlessRefused r (toldNumbers (reasonCalled gate (now (bundle .entry)) mark (now (told .entry)) (length (now (work .entry))))) (now (told .entry)) ⌝ }
+    ensures { λ _. ⌜ now (work .exit) ≡ reasonLeft (gateNumbered gate) (now (bundle .entry)) mark (reasonCalled gate (now (bundle .entry)) mark (now (told .entry)) (length (now (work .entry)))) (now (work .entry)) ⌝ }
 {
+    if 2 < gate {
+        return 103;
+    }
     if told.len() != 9 {
         return 100;
     }
-    let reason = reason_lists(Which::Schedule, bundle, mark, work);
+    let reason = reason_lists(which_of(gate), bundle, mark, work);
     let refused = refusal_of(reason);
     if refused != 0 {
         return refused;
@@ -355,25 +416,22 @@ pub extern "C" fn knotsaddle_reason(
     0
 }
 
-// The name of a field of lent rows.
-fn name_part<'a>(rows: &'a [u32], names: &'a [u8], field: usize) -> &'a [u8]
-    ensures { λ r. ⌜ now r ≡ nameAt (now (rows .entry)) (now (names .entry)) field ⌝ }
-{
-    part(names, name_start(rows, field), name_end(rows, field))
-}
-
 // Writes the name of a field of a file, both by their numbers, to the front of `out` and answers its
-// length; 0 and nothing written where there is no such field and where `out` is shorter.
+// length; 0 and nothing written where there is no such gate or field and where `out` is shorter.
 #[no_mangle]
-pub extern "C" fn knotsaddle_field_name(file: usize, field: usize, out: &mut [u8]) -> usize
-    ensures { λ r. ⌜ r ≡ lengthIn (now (out .entry)) (fieldNameOf file field) ⌝ }
-    ensures { λ _. ⌜ now (out .exit) ≡ written (now (out .entry)) 0 (fieldNameOf file field) ⌝ }
+pub extern "C" fn knotsaddle_field_name(
+    gate: u32,
+    file: usize,
+    field: usize,
+    out: &mut [u8],
+) -> usize
+    ensures { λ r. ⌜ r ≡ lengthIn (now (out .entry)) (fieldNamed gate file field) ⌝ }
+    ensures { λ _. ⌜ now (out .exit) ≡ written (now (out .entry)) 0 (fieldNamed gate file field) ⌝ }
 {
-    let rows = field_rows();
-    let names = field_names();
-    if field_count(&rows, file) <= field {
+    if 2 < gate {
         return 0;
     }
-    let own = rows_after(&rows, first_field(&rows, file));
-    put_front(out, name_part(own, &names, field))
+    let mut name = [0u8; 36];
+    let end = put_field_of(which_of(gate), &mut name, 0, file, field);
+    put_front(out, part(&name, 0, end))
 }

@@ -24,41 +24,64 @@ use Rattle.gate_marks.proofs.MarkKinds.{markKinds, Small, mark-kinds}
 use Rattle.gate_calls.specs.Calls.{Answer, answer, judgement, accepted, answered, tried, changeMade}
 use Rattle.gate_calls.proofs.Demand3.{full-mark, judged-again}
 
-module _ (g : Gate) (few : (k : ℕ) → k < g .files → countOf (g .expected k .form) ≤ 64) where
+-- of a gate whose marks have these kinds, where its files are small
+pub record Has (g : Gate) (kinds : List ℕ) : Type 0 where
+  pub fields-few : (k : ℕ) → k < g .files → countOf (g .expected k .form) ≤ 64
+  pub not-judged : In kinds 2
+  pub marks : (files : ℕ → File) → Small g files → (m : ℕ) → In kinds (markAt g m files .kind)
+
+module _ (g : Gate) (kinds : List ℕ) (has : Has g kinds) where
   -- the files of a bundle are no longer than it
   small-files : (files : ℕ → File) → bundleLength (g .files) files ≤ 1048576 → Small g files
   unfolding bundleLength piecesOf
   small-files files l =
-      record { bytes = λ k h. omega (arith, l, start-end (piecesOf files) k (g .files) h); fields = few }
+      record { bytes = λ k h. omega (arith, l, start-end (piecesOf files) k (g .files) h); fields = has .fields-few }
 
   abbrev Judged : Answer → ℕ → Type 0
-  Judged a m = In markKinds (markIn (a .marks) m .kind)
+  Judged a m = In kinds (markIn (a .marks) m .kind)
 
-  pub judged-kinds : (s : List ℕ) (m : ℕ) → m < marksOf g → Judged (judgement g s) m
+  pub judged-in : (s : List ℕ) (m : ℕ) → m < marksOf g → Judged (judgement g s) m
   unfolding judgement freshMarks
-  judged-kinds s m l =
+  judged-in s m l =
       by-test (λ a. Judged a m) (eqb (bundleFault (g .files) s) 0) _ _
       (λ e.
       let none = eqb-true (bundleFault (g .files) s) 0 e in
-      rw (full-mark g (fileAt s) m l) (mark-kinds g (fileAt s) (small-files (fileAt s) (omega (arith, valid-length (g .files) s none, fault-size (g .files) s none))) m))
-      (λ e. rw (mark-of-marks (marksOf g) (λ m. notJudged) m l))
+      rw (full-mark g (fileAt s) m l) (has .marks (fileAt s) (small-files (fileAt s) (omega (arith, valid-length (g .files) s none, fault-size (g .files) s none))) m))
+      (λ e. rw (mark-of-marks (marksOf g) (λ m. notJudged) m l) (has .not-judged))
 
   -- a change judges the marks that read its file
   module _ (s : List ℕ) (k : ℕ) (f : File) (handed : Marks) (m : ℕ) (l : m < marksOf g) (again : readsFile g m k ≡ true) where
-    changed-kinds : (refusal : ℕ) → refusal ≡ 0 → bundleLength (g .files) (filesAfter s k f) ≤ 1048576 → Judged (answered g refusal s k f handed) m
+    changed-in : (refusal : ℕ) → refusal ≡ 0 → bundleLength (g .files) (filesAfter s k f) ≤ 1048576 → Judged (answered g refusal s k f handed) m
     unfolding answered accepted
-    changed-kinds refusal none fits =
-        rw (eq-eqb refusal 0 none, judged-again g k (filesAfter s k f) handed m l again) (mark-kinds g (filesAfter s k f) (small-files (filesAfter s k f) fits) m)
+    changed-in refusal none fits =
+        rw (eq-eqb refusal 0 none, judged-again g k (filesAfter s k f) handed m l again) (has .marks (filesAfter s k f) (small-files (filesAfter s k f) fits) m)
 
-    pub tried-kinds : tryFault (g .files) s k f ≡ 0 → Judged (tried g s k f handed) m
+    pub tried-in : tryFault (g .files) s k f ≡ 0 → Judged (tried g s k f handed) m
     unfolding tried
-    tried-kinds e = changed-kinds (tryFault (g .files) s k f) e (try-none (g .files) s k f e .2)
+    tried-in e = changed-in (tryFault (g .files) s k f) e (try-none (g .files) s k f e .2)
 
-    pub made-kinds : (room : ℕ) → makeFault (g .files) s k f room ≡ 0 → Judged (changeMade g s k f handed room) m
+    pub made-in : (room : ℕ) → makeFault (g .files) s k f room ≡ 0 → Judged (changeMade g s k f handed room) m
     unfolding changeMade
-    made-kinds room e =
-        changed-kinds (makeFault (g .files) s k f room) e (try-none (g .files) s k f (make-none (g .files) s k f room e .0) .2)
+    made-in room e =
+        changed-in (makeFault (g .files) s k f room) e (try-none (g .files) s k f (make-none (g .files) s k f room e .0) .2)
+
+-- ---- any gate has these
+module _ (g : Gate) (few : (k : ℕ) → k < g .files → countOf (g .expected k .form) ≤ 64) where
+  has-kinds : Has g markKinds
+  has-kinds = record { fields-few = few; not-judged = refl; marks = λ files small m. mark-kinds g files small m }
+
+  pub judged-kinds : (s : List ℕ) (m : ℕ) → m < marksOf g → In markKinds (markIn (judgement g s .marks) m .kind)
+  judged-kinds = judged-in g markKinds has-kinds
+
+  pub tried-kinds : (s : List ℕ) (k : ℕ) (f : File) (handed : Marks) (m : ℕ) → m < marksOf g → readsFile g m k ≡ true → tryFault (g .files) s k f ≡ 0 → In markKinds (markIn (tried g s k f handed .marks) m .kind)
+  tried-kinds = tried-in g markKinds has-kinds
+
+  pub made-kinds : (s : List ℕ) (k : ℕ) (f : File) (handed : Marks) (m : ℕ) → m < marksOf g → readsFile g m k ≡ true → (room : ℕ) → makeFault (g .files) s k f room ≡ 0 → In markKinds (markIn (changeMade g s k f handed room .marks) m .kind)
+  made-kinds = made-in g markKinds has-kinds
 
 -- a kind that is not among them, as 99, which says that cells have no room, and 16
+pub never-in : (kinds : List ℕ) (kind other : ℕ) → In kinds kind → isIn kinds other ≡ false → kind ≡ other → ⊥
+never-in kinds kind other h none e = false≢true (sym none ∙ rw e at h)
+
 pub never : (kind other : ℕ) → In markKinds kind → isIn markKinds other ≡ false → kind ≡ other → ⊥
-never kind other h none e = false≢true (sym none ∙ rw e at h)
+never = never-in markKinds

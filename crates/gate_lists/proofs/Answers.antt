@@ -31,8 +31,10 @@ use Rattle.schedule.specs.Schedule.{schedule}
 use Rattle.schedule.proofs.Laws.{files-are}
 use Rattle.baseline.specs.Baseline.{baseline}
 use Rattle.baseline.proofs.Laws.{files-are as baseline-files}
+use Rattle.contract.specs.Contract.{contract}
+use Rattle.contract.proofs.Laws.{files-are as contract-files}
 use Rattle.gate_lists.specs.declared.Which.{Which}
-use Rattle.gate_lists.specs.declared.Which.the-variants.{Schedule, Baseline}
+use Rattle.gate_lists.specs.declared.Which.the-variants.{Schedule, Baseline, Contract}
 use Rattle.gate_lists.specs.Which.{gateCalled, madeOf}
 use Rattle.gate_lists.specs.Stands.{standsIn}
 use Rattle.gate_lists.proofs.Stands.{stands-length, stands-bundle, stands-after}
@@ -185,10 +187,11 @@ module _ (g : Gate) (scope : Scope) (files : ℕ → File) (work : List ℕ) whe
   work-judged refusal z e = e ∙ rw (eq-eqb refusal 0 z)
 
 -- ---- the gates in numbers
-pub files-of : (which : Which) → 20 ≡ gateCalled which .files
+pub files-few : (which : Which) → gateCalled which .files ≤ 32
 unfolding gateCalled
-files-of Schedule = sym files-are
-files-of Baseline = sym baseline-files
+files-few Schedule = omega (arith, files-are)
+files-few Baseline = omega (arith, baseline-files)
+files-few Contract = omega (arith, contract-files)
 
 -- what is called by a name is that gate
 module _ {which : Which} where
@@ -199,6 +202,10 @@ module _ {which : Which} where
   pub is-baseline : which ≡ Baseline → baseline ≡ gateCalled which
   unfolding gateCalled
   is-baseline e = sym (ap gateCalled e)
+
+  pub is-contract : which ≡ Contract → contract ≡ gateCalled which
+  unfolding gateCalled
+  is-contract e = sym (ap gateCalled e)
 
 -- ---- the answers of the calls, as the code comes to them
 -- lists that were not refused are as long as there are marks

@@ -24,8 +24,9 @@ use Rattle.gate_calls.specs.Reasons.{reasonOf, reasonAsked, refusalOf, reasonLe
 use Rattle.gate_calls.proofs.Reasons.{reason-told}
 use Rattle.schedule.proofs.Laws.{marks-are}
 use Rattle.baseline.proofs.Laws.{marks-are as baseline-marks}
+use Rattle.contract.proofs.Laws.{marks-are as contract-marks}
 use Rattle.gate_lists.specs.declared.Which.{Which}
-use Rattle.gate_lists.specs.declared.Which.the-variants.{Schedule, Baseline}
+use Rattle.gate_lists.specs.declared.Which.the-variants.{Schedule, Baseline, Contract}
 use Rattle.gate_lists.specs.Which.{gateCalled}
 use Rattle.gate_lists.specs.Stands.{standsIn}
 use Rattle.gate_lists.proofs.Stands.{starts-bundle, offset-fits}
@@ -36,6 +37,7 @@ pub few-marks : (which : Which) → marksOf (gateCalled which) ≤ 128
 unfolding gateCalled
 few-marks Schedule = omega (arith, marks-are)
 few-marks Baseline = omega (arith, baseline-marks)
+few-marks Contract = omega (arith, contract-marks)
 
 -- ---- where the files of a bundle start, as they were put down
 pub bundle-starts : (s b c stand₀ stand : List ℕ) {n : ℕ} (m : ℕ) → n ≡ m → n ≤ length stand₀ / 3 → stand ≡ standsIn s n stand₀ → bundleFault m s ≡ 0 → (i : ℕ) → i < m → startStanding s b c stand i ≡ offsetAt s i

@@ -26,6 +26,8 @@ use bundle::length_at;
 use bundle::make_bundle;
 use bundle::offset_at;
 use bundle::try_bundle;
+use contract::contract_marks;
+use contract::contract_reason;
 use gate_marks::Scope;
 use mark_numbers::have_length;
 use mark_numbers::make_fresh;
@@ -34,10 +36,11 @@ use schedule::schedule_marks;
 use schedule::schedule_reason;
 use standing::place;
 
-// The gates: document 01's, and that of document 02's baseline profile.
+// The gates: document 01's, that of document 02's baseline profile, and that of its contract side.
 pub enum Which {
     Schedule,
     Baseline,
+    Contract,
 }
 
 // How many files a set of the gate has.
@@ -47,6 +50,7 @@ pub fn file_count(which: Which) -> usize
     match which {
         Which::Schedule => 20,
         Which::Baseline => 20,
+        Which::Contract => 4,
     }
 }
 
@@ -56,6 +60,7 @@ pub fn mark_count(which: Which) -> usize
     match which {
         Which::Schedule => 81,
         Which::Baseline => 85,
+        Which::Contract => 19,
     }
 }
 
@@ -66,6 +71,7 @@ pub fn workspace(which: Which) -> usize
     match which {
         Which::Schedule => 794702,
         Which::Baseline => 794702,
+        Which::Contract => 188416,
     }
 }
 
@@ -131,6 +137,7 @@ fn judge_standing<'a>(
     match which {
         Which::Schedule => schedule_marks(a, b, c, stand, scope, work, kinds, places, companions),
         Which::Baseline => baseline_marks(a, b, c, stand, scope, work, kinds, places, companions),
+        Which::Contract => contract_marks(a, b, c, stand, scope, work, kinds, places, companions),
     }
 }
 
@@ -335,6 +342,7 @@ fn reason_standing<'a>(
     match which {
         Which::Schedule => schedule_reason(a, b, c, stand, mark, work),
         Which::Baseline => baseline_reason(a, b, c, stand, mark, work),
+        Which::Contract => contract_reason(a, b, c, stand, mark, work),
     }
 }
 

@@ -3,3 +3,4 @@ pub mod Reading
 pub mod Laws
 pub mod Marks
 pub mod MarkKinds
+pub mod Described

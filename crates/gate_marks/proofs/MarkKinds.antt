@@ -4,16 +4,18 @@
 use Prim.Native.Nat.{ℕ, _*_, _^_, _≤_, _<_}
 use mathlib.Core.Path.{_≡_, refl, sym}
 use mathlib.Core.Bool.{Bool, true, false, cond, _&&_, false≢true}
-use mathlib.Core.List.{List, _∷_}
+use mathlib.Core.List.{List, [], _∷_}
 use borrow.Author.Tests.{ltb-true, le-leb}
 use lib.ListN.{length}
 use lib.Dec.{ltb, leb, eqb}
 use Rattle.json_bytes.proofs.Laws.{by-test, either}
-use Rattle.json_bytes.proofs.FaultKinds.{In, wider}
-use Rattle.parts.specs.Files.{File, bytesOf}
+use Rattle.json_bytes.proofs.FaultKinds.{In, wider, in-right}
+use Rattle.parts.specs.Files.{File, Left, Given, bytesOf}
 use Rattle.mark_numbers.specs.declared.Mark.{Mark}
-use Rattle.table_file.specs.File.{Form, Fixed, Single, Records, Expected}
-use Rattle.table_file.proofs.FaultKinds.{fileKinds, countOf, cellsOf, own-kinds}
+use Rattle.table_rows.specs.Rows.{Field}
+use Rattle.table_file.specs.File.{Form, Fixed, Single, Records, Expected, omitted, readAs, fileOf}
+use Rattle.table_file.proofs.FaultKinds.{tableKinds, table-kinds, fileKinds, countOf, cellsOf, own-room, own-kinds}
+use Rattle.table_file.specs.Table.{tableOf}
 use Rattle.rule_shape.specs.Rule.{firstOf, secondOf}
 use Rattle.rules.specs.declared.Break.{Break}
 use Rattle.rules.specs.Judge.{markOf}
@@ -44,6 +46,27 @@ rule-kinds : (judged : Bool) (b : Break) → OfMark (markOf judged b)
 unfolding markOf
 rule-kinds judged b = either OfMark judged _ _ (either OfMark (eqb (b .«record») 0) _ _ refl refl) refl
 
+-- ---- where every file is an array that may be left out: those of a table, without 21 and 22
+abbrev pub arrayKinds : List ℕ
+arrayKinds = 1 ∷ 2 ∷ tableKinds
+
+abbrev pub freeArray : List Field → Expected
+freeArray fields = record { form = Records fields; required = false }
+
+abbrev OfArray : Mark → Type 0
+OfArray mark = In arrayKinds (mark .kind)
+
+array-kinds : (fields : List Field) (f : File) → length (bytesOf f) < 2 ^ 32 → length fields ≤ 64 → OfArray (fileMark (freeArray fields) f)
+unfolding fileMark markRead readOf fileOf omitted readAs bytesOf
+array-kinds fields Left small few = refl
+array-kinds fields (Given s) small few =
+    in-right (1 ∷ 2 ∷ []) tableKinds (tableOf false fields s (zeros (roomOf (Records fields))) .read .kind)
+    (table-kinds fields s (zeros (roomOf (Records fields))) false (own-room (Records fields) s (zeros (roomOf (Records fields))) small few (own-cells (Records fields) few)))
+
+array-rule-kinds : (judged : Bool) (b : Break) → OfArray (markOf judged b)
+unfolding markOf
+array-rule-kinds judged b = either OfArray judged _ _ (either OfArray (eqb (b .«record») 0) _ _ refl refl) refl
+
 module _ (g : Gate) (files : ℕ → File) (small : Small g files) where
   pub own-mark-kinds : (k : ℕ) → k < g .files → In fileKinds (fileMark (g .expected k) (files k) .kind)
   unfolding fileMark markRead readOf
@@ -58,3 +81,13 @@ module _ (g : Gate) (files : ℕ → File) (small : Small g files) where
 
   pub never-99 : (m : ℕ) → markAt g m files .kind ≡ 99 → ⊥
   never-99 m e = false≢true (rw e at (mark-kinds m))
+
+  pub array-mark-kinds : ((k : ℕ) → k < g .files → (fields : List Field) × (g .expected k ≡ freeArray fields)) → (m : ℕ) → OfArray (markAt g m files)
+  unfolding markAt ruleMarkAt ruleMark
+  array-mark-kinds free m =
+      by-test OfArray (ltb m (g .files)) _ _
+      (λ e. own (free m (ltb-true m (g .files) e) .0) (free m (ltb-true m (g .files) e) .1) (small .bytes m (ltb-true m (g .files) e)) (small .fields m (ltb-true m (g .files) e)))
+      (λ e. either OfArray (ltb (firstOf (ruleOf g m)) (g .files) && ltb (secondOf (ruleOf g m)) (g .files)) _ _ (array-rule-kinds _ _) refl)
+    where
+      own : (fields : List Field) → g .expected m ≡ freeArray fields → length (bytesOf (files m)) < 2 ^ 32 → countOf (g .expected m .form) ≤ 64 → OfArray (fileMark (g .expected m) (files m))
+      own fields e l few = rw e (array-kinds fields (files m) l (rw e at few))

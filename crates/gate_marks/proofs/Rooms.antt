@@ -65,6 +65,16 @@ module _ (forms fields : List ℕ) (k count : ℕ) (count-is : count ≡ countIn
     unfolding roomIn
     room-records n = rw (← count-is, le-leb count 64 few, ← form-is, ne-eqb form 1 n)
 
+-- of 64 fields at most
+pub room-most : (forms fields : List ℕ) (k : ℕ) → roomIn forms fields k ≤ 524288
+unfolding roomIn
+room-most forms fields k = go (leb (countIn forms fields k) 64) refl (eqb (cellAt forms 2 k 0) 1)
+  where
+    go : (few : Bool) → leb (countIn forms fields k) 64 ≡ few → (single : Bool) → cond few (cond single (2 * countIn forms fields k) (8192 * countIn forms fields k)) 0 ≤ 524288
+    go true e true = omega (arith, leb-true (countIn forms fields k) 64 e)
+    go true e false = omega (arith, leb-true (countIn forms fields k) 64 e)
+    go false e single = omega arith
+
 -- by the number of its form and that of its fields
 module _ (text : List ℕ) (own : List Field) (n : ℕ) (long : length own ≡ n) where
   width-of-form : (form : ℕ) → widthOf (formFrom form text own) ≡ 2 * cond (ltb 1 form) 0 n
@@ -87,7 +97,7 @@ module _ (forms fields names fixed : List ℕ) where
   width-is k =
       sym (width-of-form fixed (fieldsIn fields names k) (fieldCount fields k) (fields-in-length fields names k) (cellAt forms 2 k 0))
 
-  room-is : (k : ℕ) → roomIn forms fields k ≡ roomOf (expectedIn forms fields names fixed k .form)
+  pub room-is : (k : ℕ) → roomIn forms fields k ≡ roomOf (expectedIn forms fields names fixed k .form)
   unfolding expectedIn roomIn countIn
   room-is k =
       sym (room-of-form fixed (fieldsIn fields names k) (fieldCount fields k) (fields-in-length fields names k) (cellAt forms 2 k 0))

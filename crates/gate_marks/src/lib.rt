@@ -48,7 +48,7 @@ pub enum Scope {
 }
 
 // How many cells file k has: those of one record for a singleton, of 4,096 for any other table.
-fn room_of(forms: &[u32], fields: &[u32], k: usize) -> usize
+pub fn room_of(forms: &[u32], fields: &[u32], k: usize) -> usize
     ensures { λ r. ⌜ r ≡ roomIn (now (forms .entry)) (now (fields .entry)) k ⌝ }
 {
     let count = count_of(forms, fields, k);
@@ -113,7 +113,7 @@ fn clear(cells: &mut [u32])
 }
 
 // Reads file k into cells that are its own, whatever they held.
-fn read_own(
+pub fn read_own(
     forms: &[u32],
     fields: &[u32],
     names: &[u8],
@@ -248,6 +248,16 @@ fn is_needed(n: usize, rules: &[u32], scope: Scope, file: usize) -> bool
         m += 1;
     }
     false
+}
+
+// The same for any number of files: of a gate of more than 32 none is read.
+pub fn is_read(n: usize, rules: &[u32], scope: Scope, file: usize) -> bool
+    ensures { λ r. ⌜ r ≡ leb n 32 && needed n (length (now (rules .entry)) / 9) (ruleFrom (now (rules .entry))) scope file ⌝ }
+{
+    if 32 < n {
+        return false;
+    }
+    is_needed(n, rules, scope, file)
 }
 
 // Reads each file that is needed, once.

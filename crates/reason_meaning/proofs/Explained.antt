@@ -23,7 +23,7 @@ use Rattle.rule_when.specs.declared.When.{When}
 use Rattle.rule_key.specs.declared.Key.{Key}
 use Rattle.rule_key.proofs.Laws.{Repeat}
 use Rattle.rule_shape.specs.declared.Rule.{Rule}
-use Rattle.rule_shape.specs.declared.Rule.the-variants.{KeyOf, OneOf, NullUnless, GivenIf, GivenUnless, NoneBelow, SomeAbove, Together, LevelRun, ParentGiven, AllGiven, NoneGiven, InOrder, TargetIn, ParentIs, EachHas}
+use Rattle.rule_shape.specs.declared.Rule.the-variants.{KeyOf, OneOf, NullUnless, GivenIf, GivenUnless, NoneBelow, SomeAbove, Together, LevelRun, ParentGiven, AllGiven, NoneGiven, InOrder, TreeLevels, TreeParent, TargetIn, ParentIs, LeafIn, EachHas}
 use Rattle.rule_shape.specs.Rule.{firstOf, secondOf}
 use Rattle.rules.specs.declared.Break.{Break}
 use Rattle.rules.specs.Judge.{ruleBreak, isJudged, markOf}
@@ -87,8 +87,11 @@ decides-below places texts (ParentGiven file parent level id) t u r k d = omega 
 decides-below places texts (AllGiven file from to) t u r k d = d .inside
 decides-below places texts (NoneGiven file from to) t u r k d = d .inside
 decides-below places texts (InOrder file first second) t u r k d = omega (arith, d .0)
+decides-below places texts (TreeLevels file level) t u r k d = omega arith
+decides-below places texts (TreeParent file parent level id) t u r k d = omega arith
 decides-below places texts (TargetIn file field when other id) t u r k d = omega (arith, d .0)
 decides-below places texts (ParentIs file parent level id other otherID otherType value) t u r k d = omega arith
+decides-below places texts (LeafIn file field other id level) t u r k d = omega (arith, d .0)
 decides-below places texts (EachHas file field when other id) t u r k d = omega (arith, d .0)
 
 -- ---- the value by its two cells

@@ -11,7 +11,7 @@ use Rattle.table_rows.specs.Rows.{Field}
 use Rattle.table_file.specs.File.{Form, Fixed, Single, Records}
 use Rattle.rule_cells.specs.Cells.{Table}
 use Rattle.rule_shape.specs.declared.Rule.{Rule}
-use Rattle.rule_shape.specs.declared.Rule.the-variants.{KeyOf, OneOf, NullUnless, GivenIf, GivenUnless, NoneBelow, SomeAbove, Together, LevelRun, ParentGiven, AllGiven, NoneGiven, InOrder, TargetIn, ParentIs, EachHas}
+use Rattle.rule_shape.specs.declared.Rule.the-variants.{KeyOf, OneOf, NullUnless, GivenIf, GivenUnless, NoneBelow, SomeAbove, Together, LevelRun, ParentGiven, AllGiven, NoneGiven, InOrder, TreeLevels, TreeParent, TargetIn, ParentIs, LeafIn, EachHas}
 use Rattle.rule_shape.specs.Rule.{firstOf, secondOf}
 use Rattle.rule_meaning.specs.Decides.{Shows}
 use Rattle.table_meaning.specs.Meaning.{_∈_, Member, member, Means}
@@ -77,6 +77,9 @@ fieldsEnd (ParentGiven file parent level id) = parent + 1
 fieldsEnd (AllGiven file from to) = to
 fieldsEnd (NoneGiven file from to) = to
 fieldsEnd (InOrder file first second) = first + 1
+fieldsEnd (TreeLevels file level) = level + 1
+fieldsEnd (TreeParent file parent level id) = parent + 1
 fieldsEnd (TargetIn file field when other id) = field + 1
 fieldsEnd (ParentIs file parent level id other otherID otherType value) = parent + 1
+fieldsEnd (LeafIn file field other id level) = field + 1
 fieldsEnd (EachHas file field when other id) = field + 1

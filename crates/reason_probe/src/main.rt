@@ -1,9 +1,12 @@
 // Answers cases of the text of reasons, so that a test can ask the compiled code thousands of them in one
 // run. All numbers are little-endian u32. A case on standard input is two numbers (the bundle's length,
-// and 1 for marks grouped as the folder's program has them) and the bundle; the answer is the text's
-// length and the text. The program ends where the input does, and at a bundle that is too long.
+// and twice the gate's number, 0 for document 01's, 1 for the baseline profile and 2 for the contract side,
+// with 1 more for marks grouped as the folder's program has them) and the bundle; the answer is the text's
+// length and the text.
+// The program ends where the input does, and at a bundle that is too long or a gate that is not known.
 use bundle_bytes::put_word;
 use bundle_bytes::word_at;
+use gate_lists::Which;
 use libc::STDIN_FILENO;
 use libc::STDOUT_FILENO;
 use parts::part;
@@ -31,8 +34,8 @@ fn write_text(text: &[u8]) -> bool {
     false
 }
 
-fn tell(bundle: &[u8], grouped: bool, work: &mut [u32], out: &mut [u8]) -> bool {
-    let n = reasons(bundle, grouped, work, out);
+fn tell(which: Which, bundle: &[u8], grouped: bool, work: &mut [u32], out: &mut [u8]) -> bool {
+    let n = reasons(which, bundle, grouped, work, out);
     write_text(part(out, 0, n))
 }
 
@@ -43,11 +46,17 @@ fn answer(buf: &mut [u8], work: &mut [u32], out: &mut [u8]) -> bool {
         return false;
     }
     let n = word_at(&head, 0) as usize;
-    let grouped = word_at(&head, 4) == 1;
+    let asked = word_at(&head, 4);
+    let grouped = asked % 2 == 1;
     if !fill_front(buf, n) {
         return false;
     }
-    tell(part(buf, 0, n), grouped, work, out)
+    match asked / 2 {
+        0 => tell(Which::Schedule, part(buf, 0, n), grouped, work, out),
+        1 => tell(Which::Baseline, part(buf, 0, n), grouped, work, out),
+        2 => tell(Which::Contract, part(buf, 0, n), grouped, work, out),
+        _ => false,
+    }
 }
 
 // A proved loop has to end, and nothing says that the input does. So the loop counts its turns

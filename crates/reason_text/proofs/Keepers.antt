@@ -26,8 +26,9 @@ use Rattle.reason_answer.specs.declared.Reason.{Reason}
 use Rattle.reason_answer.specs.declared.Reason.the-variants.{Refused, Holds, NotJudged, OwnMark, Broken, Missing}
 use Rattle.reason_answer.proofs.Reason.{the-type}
 use Rattle.gate_calls.specs.Reasons.{reasonOf}
-use Rattle.schedule.specs.Schedule.{schedule}
-use Rattle.schedule.proofs.Laws.{files-are}
+use Rattle.gate_marks.specs.Gate.{Gate}
+use Rattle.gate_lists.specs.declared.Which.{Which}
+use Rattle.gate_lists.specs.Which.{gateCalled}
 use Rattle.wording.specs.declared.Slots.{Slots}
 use Rattle.wording.specs.Sentences.{sentenceAt, keepsOne, keepsMany}
 use Rattle.wording.specs.Wording.{filled}
@@ -48,19 +49,17 @@ no-keeper none (OwnMark kind place companion) k = refl
 no-keeper none (Broken shown) k = refl
 no-keeper none (Missing shown searched) k = refl
 
-module _ (told : Reason) (kind : ℕ) {r : ℕ} where
-  pub keeper-asked : kind ≡ 2 → {x : Reason} → x ≡ told → r ≡ keeperOf 20 x → r ≡ cond (eqb kind 2) (keeperOf 20 told) 20
-  keeper-asked e f h = rw (eq-eqb kind 2 e, ← f) h
+module _ (n : ℕ) (told : Reason) (kind : ℕ) {none r : ℕ} (none-is : none ≡ n) where
+  pub keeper-asked : kind ≡ 2 → {x : Reason} → x ≡ told → r ≡ keeperOf none x → r ≡ cond (eqb kind 2) (keeperOf n told) n
+  keeper-asked e f h = rw (eq-eqb kind 2 e, ← f, ← none-is) h
 
-pub keeper-none : (told : Reason) (kind : ℕ) → (kind ≡ 2 → ⊥) → 20 ≡ cond (eqb kind 2) (keeperOf 20 told) 20
-keeper-none told kind n = rw (ne-eqb kind 2 n)
+pub keeper-none : (n : ℕ) (told : Reason) (kind : ℕ) {none : ℕ} → none ≡ n → (kind ≡ 2 → ⊥) → none ≡ cond (eqb kind 2) (keeperOf n told) n
+keeper-none n told kind e z = rw (ne-eqb kind 2 z) e
 
 -- of mark m, as the calls give it
-pub keeper-is : (s : List ℕ) (marks : Marks) (m : ℕ) {x : Mark} {r : ℕ} → x ≡ markIn marks m → r ≡ cond (eqb (x .kind) 2) (keeperOf 20 (reasonOf schedule s m)) 20 → r ≡ keeperAt schedule s marks m
+pub keeper-is : (g : Gate) (s : List ℕ) (marks : Marks) (m : ℕ) {x : Mark} {r : ℕ} → x ≡ markIn marks m → r ≡ cond (eqb (x .kind) 2) (keeperOf (g .files) (reasonOf g s m)) (g .files) → r ≡ keeperAt g s marks m
 unfolding keeperAt
-keeper-is s marks m e h =
-    h ∙ ap (λ (x : Mark). cond (eqb (x .kind) 2) (keeperOf 20 (reasonOf schedule s m)) 20) e
-    ∙ ap (λ n. cond (eqb (markIn marks m .kind) 2) (keeperOf n (reasonOf schedule s m)) n) (sym files-are)
+keeper-is g s marks m e h = h ∙ ap (λ (x : Mark). cond (eqb (x .kind) 2) (keeperOf (g .files) (reasonOf g s m)) (g .files)) e
 
 -- ---- a list as a loop fills it from the front
 module _ (f : ℕ → ℕ) where
@@ -95,48 +94,51 @@ module _ (keepers : List ℕ) (file : ℕ) where
   count-end found i l h = omega (arith, rw (drop-of-length-le keepers {i = i} l) at h)
 
 -- ---- the line of a file that keeps n marks
-module _ (file n : ℕ) (o : Output) where
-  pub kept-none : n ≡ 0 → o ≡ put o (keptLine file n)
+module _ (which : Which) (file n : ℕ) (o : Output) where
+  pub kept-none : n ≡ 0 → o ≡ put o (keptLine which file n)
   unfolding keptLine put
   kept-none z = rw (eq-eqb n 0 z)
 
-  pub kept-put : (n ≡ 0 → ⊥) → {k : ℕ} {slots : Slots} {p q : Output} → k ≡ cond (eqb n 1) keepsOne keepsMany → slots ≡ fileSlots file n → p ≡ put o (filled slots [] (sentenceAt k)) → q ≡ put p (10 ∷ []) → q ≡ put o (keptLine file n)
+  pub kept-put : (n ≡ 0 → ⊥) → {k : ℕ} {slots : Slots} {p q : Output} → k ≡ cond (eqb n 1) keepsOne keepsMany → slots ≡ fileSlots file n → p ≡ put o (filled which slots [] (sentenceAt k)) → q ≡ put p (10 ∷ []) → q ≡ put o (keptLine which file n)
   unfolding keptLine codes
   kept-put z {k} {slots} e f g h =
-      rw (ne-eqb n 0 z, ← e, ← f) (put-then o (filled slots [] (sentenceAt k)) (10 ∷ []) g h)
+      rw (ne-eqb n 0 z, ← e, ← f) (put-then o (filled which slots [] (sentenceAt k)) (10 ∷ []) g h)
 
 -- ---- file by file
-module _ (keepers : List ℕ) (o : Output) where
-  pub keepers-start : o ≡ put o (keptLines keepers 0)
+module _ (which : Which) (keepers : List ℕ) (o : Output) where
+  pub keepers-start : o ≡ put o (keptLines which keepers 0)
   unfolding keptLines joined put
   keepers-start = refl
 
-  pub keepers-next : (file : ℕ) {n : ℕ} {p q : Output} → n ≡ count (λ keeper. eqb keeper file) keepers → p ≡ put o (keptLines keepers file) → q ≡ put p (keptLine file n) → q ≡ put o (keptLines keepers (file + 1))
+  pub keepers-next : (file : ℕ) {n : ℕ} {p q : Output} → n ≡ count (λ keeper. eqb keeper file) keepers → p ≡ put o (keptLines which keepers file) → q ≡ put p (keptLine which file n) → q ≡ put o (keptLines which keepers (file + 1))
   unfolding keptLines
   keepers-next file e f h =
-      rw (joined-next (λ file. keptLine file (count (λ keeper. eqb keeper file) keepers)) file)
-      (put-then o (keptLines keepers file) (keptLine file (count (λ keeper. eqb keeper file) keepers)) f (rw e at h))
+      rw (joined-next (λ file. keptLine which file (count (λ keeper. eqb keeper file) keepers)) file)
+      (put-then o (keptLines which keepers file) (keptLine which file (count (λ keeper. eqb keeper file) keepers)) f (rw e at h))
 
-  pub keepers-end : {file : ℕ} {p : Output} → file ≡ 20 → p ≡ put o (keptLines keepers file) → p ≡ put o (keptLines keepers 20)
-  keepers-end e h = h ∙ ap (λ k. put o (keptLines keepers k)) e
+  pub keepers-end : {file n : ℕ} {p : Output} → file ≡ n → p ≡ put o (keptLines which keepers file) → p ≡ put o (keptLines which keepers n)
+  keepers-end e h = h ∙ ap (λ k. put o (keptLines which keepers k)) e
 
 -- ---- all of them, where marks are grouped
-module _ (s : List ℕ) (marks : Marks) (o : Output) (grouped : Bool) where
-  pub groups-none : not grouped ≡ true → o ≡ put o (cond grouped (keptLines (keepersOf schedule s marks) 20) [])
+module _ (which : Which) (s : List ℕ) (marks : Marks) (o : Output) (grouped : Bool) where
+  abbrev kept : List ℕ → List ℕ
+  kept keepers = keptLines which keepers (gateCalled which .files)
+
+  pub groups-none : not grouped ≡ true → o ≡ put o (cond grouped (kept (keepersOf (gateCalled which) s marks)) [])
   unfolding put
   groups-none e = go grouped e
     where
-      go : (t : Bool) → not t ≡ true → o ≡ put o (cond t (keptLines (keepersOf schedule s marks) 20) [])
+      go : (t : Bool) → not t ≡ true → o ≡ put o (cond t (kept (keepersOf (gateCalled which) s marks)) [])
       go true e = absurd (true≢false (sym e))
       go false e = refl
 
-  pub groups-put : not grouped ≡ false → {keepers : List ℕ} {n : ℕ} → keepers ≡ listOf (keeperAt schedule s marks) n → n ≡ length (marks .kinds) → {p : Output} → p ≡ put o (keptLines keepers 20) → p ≡ put o (cond grouped (keptLines (keepersOf schedule s marks) 20) [])
+  pub groups-put : not grouped ≡ false → {keepers : List ℕ} {n files : ℕ} → keepers ≡ listOf (keeperAt (gateCalled which) s marks) n → n ≡ length (marks .kinds) → files ≡ gateCalled which .files → {p : Output} → p ≡ put o (keptLines which keepers files) → p ≡ put o (cond grouped (kept (keepersOf (gateCalled which) s marks)) [])
   unfolding keepersOf
-  groups-put e {keepers} {n} f l {p} h = go grouped e
+  groups-put e {keepers} f l files-are {p} h = go grouped e
     where
-      whole : p ≡ put o (keptLines (listOf (keeperAt schedule s marks) (length (marks .kinds))) 20)
-      whole = h ∙ ap (λ k. put o (keptLines k 20)) (f ∙ ap (listOf (keeperAt schedule s marks)) l)
+      whole : p ≡ put o (kept (listOf (keeperAt (gateCalled which) s marks) (length (marks .kinds))))
+      whole = h ∙ ap (λ n. put o (keptLines which keepers n)) files-are ∙ ap (λ k. put o (kept k)) (f ∙ ap (listOf (keeperAt (gateCalled which) s marks)) l)
 
-      go : (t : Bool) → not t ≡ false → p ≡ put o (cond t (keptLines (listOf (keeperAt schedule s marks) (length (marks .kinds))) 20) [])
+      go : (t : Bool) → not t ≡ false → p ≡ put o (cond t (kept (listOf (keeperAt (gateCalled which) s marks) (length (marks .kinds)))) [])
       go true e = whole
       go false e = absurd (true≢false e)

@@ -17,7 +17,8 @@ use Rattle.mark_numbers.specs.Marks.{Marks, markIn}
 use Rattle.mark_numbers.specs.declared.Mark.{Mark}
 use Rattle.reason_answer.specs.declared.Reason.{Reason}
 use Rattle.report.specs.Report.{numbersOf}
-use Rattle.gate_marks.specs.Gate.{Gate}
+use Rattle.gate_lists.specs.declared.Which.{Which}
+use Rattle.gate_lists.specs.Which.{gateCalled}
 use Rattle.gate_calls.specs.Reasons.{reasonOf, valueShown}
 use Rattle.wording.specs.declared.Slots.{Slots}
 use Rattle.wording.specs.Sentences.{sentenceAt}
@@ -45,37 +46,37 @@ module _ (grouped : Bool) (kind : ℕ) where
     silent-alone e = rw (ne-eqb kind 0 n, e)
 
 -- ---- a mark's sentence, and its line
-module _ (s : List ℕ) (m : ℕ) (told : Reason) (o : Output) where
-  pub sentence-put : {slots : Slots} {value : List ℕ} {n : ℕ} → slots ≡ slotsOf s m told → value ≡ valueShown s told → n ≡ sentenceNumber m told → {p : Output} → p ≡ put o (filled slots value (sentenceAt n)) → p ≡ put o (sentenceOf s m told)
+module _ (which : Which) (s : List ℕ) (m : ℕ) (told : Reason) (o : Output) where
+  pub sentence-put : {slots : Slots} {value : List ℕ} {n : ℕ} → slots ≡ slotsOf s m told → value ≡ valueShown s told → n ≡ sentenceNumber which m told → {p : Output} → p ≡ put o (filled which slots value (sentenceAt n)) → p ≡ put o (sentenceOf which s m told)
   unfolding sentenceOf
   sentence-put e f g h = h ∙ rw (e, f, g)
 
-  pub line-put : (mark : Mark) {p q r t : Output} → p ≡ put o (numbersOf m mark) → q ≡ put p (32 ∷ []) → r ≡ put q (sentenceOf s m told) → t ≡ put r (10 ∷ []) → t ≡ put o (lineWith s m mark told)
+  pub line-put : (mark : Mark) {p q r t : Output} → p ≡ put o (numbersOf m mark) → q ≡ put p (32 ∷ []) → r ≡ put q (sentenceOf which s m told) → t ≡ put r (10 ∷ []) → t ≡ put o (lineWith which s m mark told)
   unfolding lineWith codes
   line-put mark e f g h =
-      put-then o _ (10 ∷ []) (put-then o _ (sentenceOf s m told) (put-then o (numbersOf m mark) (32 ∷ []) e f) g) h
+      put-then o _ (10 ∷ []) (put-then o _ (sentenceOf which s m told) (put-then o (numbersOf m mark) (32 ∷ []) e f) g) h
 
 -- ---- none for a silent mark, else with what is told of it
-module _ (g : Gate) (grouped : Bool) (s : List ℕ) (m : ℕ) (mark : Mark) (o : Output) {t : Bool} (t-is : t ≡ isSilent grouped (mark .kind)) where
-  pub mark-none : t ≡ true → o ≡ put o (reasonLine g grouped s m mark)
+module _ (which : Which) (grouped : Bool) (s : List ℕ) (m : ℕ) (mark : Mark) (o : Output) {t : Bool} (t-is : t ≡ isSilent grouped (mark .kind)) where
+  pub mark-none : t ≡ true → o ≡ put o (reasonLine which grouped s m mark)
   unfolding reasonLine put
   mark-none e = rw (← t-is, e)
 
-  pub mark-put : t ≡ false → {told : Reason} → told ≡ reasonOf g s m → {p : Output} → p ≡ put o (lineWith s m mark told) → p ≡ put o (reasonLine g grouped s m mark)
+  pub mark-put : t ≡ false → {told : Reason} → told ≡ reasonOf (gateCalled which) s m → {p : Output} → p ≡ put o (lineWith which s m mark told) → p ≡ put o (reasonLine which grouped s m mark)
   unfolding reasonLine
   mark-put e f h = rw (← t-is, e, ← f) h
 
 -- ---- the lines, one after the other
-module _ (g : Gate) (grouped : Bool) (s : List ℕ) (marks : Marks) (o : Output) where
-  pub lines-start : o ≡ put o (reasonLines g grouped s marks 0)
+module _ (which : Which) (grouped : Bool) (s : List ℕ) (marks : Marks) (o : Output) where
+  pub lines-start : o ≡ put o (reasonLines which grouped s marks 0)
   unfolding reasonLines joined put
   lines-start = refl
 
-  pub lines-next : (m : ℕ) {x : Mark} {p q : Output} → x ≡ markIn marks m → p ≡ put o (reasonLines g grouped s marks m) → q ≡ put p (reasonLine g grouped s m x) → q ≡ put o (reasonLines g grouped s marks (m + 1))
+  pub lines-next : (m : ℕ) {x : Mark} {p q : Output} → x ≡ markIn marks m → p ≡ put o (reasonLines which grouped s marks m) → q ≡ put p (reasonLine which grouped s m x) → q ≡ put o (reasonLines which grouped s marks (m + 1))
   unfolding reasonLines
   lines-next m is e h =
-      rw (joined-next (λ m. reasonLine g grouped s m (markIn marks m)) m)
-      (put-then o (reasonLines g grouped s marks m) (reasonLine g grouped s m (markIn marks m)) e (rw is at h))
+      rw (joined-next (λ m. reasonLine which grouped s m (markIn marks m)) m)
+      (put-then o (reasonLines which grouped s marks m) (reasonLine which grouped s m (markIn marks m)) e (rw is at h))
 
-  pub lines-end : (m n : ℕ) {p : Output} → m ≡ n → p ≡ put o (reasonLines g grouped s marks m) → p ≡ put o (reasonLines g grouped s marks n)
-  lines-end m n e h = h ∙ ap (λ k. put o (reasonLines g grouped s marks k)) e
+  pub lines-end : (m n : ℕ) {p : Output} → m ≡ n → p ≡ put o (reasonLines which grouped s marks m) → p ≡ put o (reasonLines which grouped s marks n)
+  lines-end m n e h = h ∙ ap (λ k. put o (reasonLines which grouped s marks k)) e

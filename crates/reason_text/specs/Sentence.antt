@@ -1,4 +1,4 @@
--- The sentence beside a mark, from what is told of it: document 02, order 6.
+-- The sentence beside a mark of a gate, from what is told of it: document 02, order 6.
 use Prim.Native.Nat.{ℕ}
 use mathlib.Core.List.{List}
 use Rattle.parts.specs.Files.{bytesOf}
@@ -9,18 +9,19 @@ use Rattle.reason_answer.specs.declared.Shown.{Shown}
 use Rattle.reason_answer.specs.declared.Reason.{Reason}
 use Rattle.reason_answer.specs.declared.Reason.the-variants.{Refused, Holds, NotJudged, OwnMark, Broken, Missing}
 use Rattle.gate_calls.specs.Reasons.{valueShown}
+use Rattle.gate_lists.specs.declared.Which.{Which}
 use Rattle.wording.specs.declared.Slots.{Slots}
 use Rattle.wording.specs.Sentences.{sentenceAt, ofRule, ofKind, notJudged, nothing}
 use Rattle.wording.specs.Wording.{filled}
 
 -- which sentence it is, of mark m; none for one that holds
-unfoldable pub sentenceNumber : ℕ → Reason → ℕ
-sentenceNumber m (Refused refusal) = nothing
-sentenceNumber m Holds = nothing
-sentenceNumber m (NotJudged file) = notJudged
-sentenceNumber m (OwnMark kind place companion) = ofKind kind
-sentenceNumber m (Broken shown) = ofRule m
-sentenceNumber m (Missing shown searched) = ofRule m
+unfoldable pub sentenceNumber : Which → ℕ → Reason → ℕ
+sentenceNumber which m (Refused refusal) = nothing
+sentenceNumber which m Holds = nothing
+sentenceNumber which m (NotJudged file) = notJudged
+sentenceNumber which m (OwnMark kind place companion) = ofKind which kind
+sentenceNumber which m (Broken shown) = ofRule which m
+sentenceNumber which m (Missing shown searched) = ofRule which m
 
 -- ---- What stands in its slots; 0 where a sentence has no such slot
 -- a file and a count
@@ -45,5 +46,5 @@ slotsOf s m (OwnMark kind place companion) = ownSlots m companion (spotAt (bytes
 slotsOf s m (Broken shown) = shownSlots shown 0
 slotsOf s m (Missing shown searched) = shownSlots shown searched
 
-unfoldable pub sentenceOf : List ℕ → ℕ → Reason → List ℕ
-sentenceOf s m told = filled (slotsOf s m told) (valueShown s told) (sentenceAt (sentenceNumber m told))
+unfoldable pub sentenceOf : Which → List ℕ → ℕ → Reason → List ℕ
+sentenceOf which s m told = filled which (slotsOf s m told) (valueShown s told) (sentenceAt (sentenceNumber which m told))

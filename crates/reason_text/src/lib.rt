@@ -1,4 +1,4 @@
-// The text of a bundle's marks with the reason beside each that doesn't hold.
+// The text of the marks that a gate gives a bundle, with the reason beside each that doesn't hold.
 ghost use mathlib.Core.Path.{_≡_};
 ghost use mathlib.Core.Bool.{true, cond};
 ghost use mathlib.Core.List.{[]};
@@ -11,13 +11,19 @@ ghost use Rattle.parts.specs.Files.{bytesOf};
 ghost use Rattle.bundle_layout.specs.Bundle.{fileAt};
 ghost use Rattle.mark_numbers.specs.Marks.{marksIn, listOf};
 ghost use Rattle.gate_calls.specs.Reasons.{reasonOf};
-ghost use Rattle.schedule.specs.Schedule.{schedule};
+ghost use Rattle.gate_marks.specs.Gate.{marksOf};
+ghost use Rattle.gate_marks.specs.Again.{workspaceOf};
+ghost use Rattle.gate_lists.specs.Which.{gateCalled};
 ghost use Rattle.reason_text.specs.Sentence.{fileSlots, ownSlots, shownSlots, sentenceNumber, slotsOf, sentenceOf};
-ghost use Rattle.reason_text.specs.Text.{isSilent, lineWith, reasonLine, reasonLines, keeperOf, keeperAt, keptLine, keptLines, keepersOf, marksText, reasonsIn, frontPut};
+ghost use Rattle.reason_text.specs.Text.{isSilent, lineWith, reasonLine, reasonLines, keeperOf, keeperAt, keptLine, keptLines, keepersOf, marksText, reasonsText, reasonsIn, frontPut};
 use bundle::part_at;
-use gate::judge_in;
-use gate::reason_in;
 use gate::value_shown;
+use gate_lists::Which;
+use gate_lists::file_count;
+use gate_lists::judge_lists;
+use gate_lists::mark_count;
+use gate_lists::reason_lists;
+use gate_lists::workspace;
 use mark_numbers::Mark;
 use mark_numbers::kind_at;
 use mark_numbers::mark_in;
@@ -33,35 +39,30 @@ use wording::kind_sentence;
 use wording::put_sentence;
 use wording::rule_sentence;
 
-// How many files a set has: the number that stands for no file.
-const FILES: usize = 20;
-
-const MARKS: usize = 81;
-
-// How many numbers a workspace takes.
-const WORKSPACE: usize = 794702;
+// No gate has more marks.
+const MOST_MARKS: usize = 96;
 
 // The numbers of the sentences that no mark or kind gives.
-const NOT_JUDGED: usize = 79;
+const NOT_JUDGED: usize = 83;
 
-const KEEPS_MANY: usize = 80;
+const KEEPS_MANY: usize = 84;
 
-const KEEPS_ONE: usize = 81;
+const KEEPS_ONE: usize = 85;
 
-const NOTHING: usize = 82;
+const NOTHING: usize = 86;
 
 // ---- The sentence beside a mark
 
-fn sentence_number(m: usize, told: Reason) -> usize
-    ensures { λ r. ⌜ r ≡ sentenceNumber m told ⌝ }
+fn sentence_number(which: Which, m: usize, told: Reason) -> usize
+    ensures { λ r. ⌜ r ≡ sentenceNumber which m told ⌝ }
 {
     match told {
         Reason::Refused { .. } => NOTHING,
         Reason::Holds => NOTHING,
         Reason::NotJudged { .. } => NOT_JUDGED,
-        Reason::OwnMark { kind, .. } => kind_sentence(kind),
-        Reason::Broken { .. } => rule_sentence(m),
-        Reason::Missing { .. } => rule_sentence(m),
+        Reason::OwnMark { kind, .. } => kind_sentence(which, kind),
+        Reason::Broken { .. } => rule_sentence(which, m),
+        Reason::Missing { .. } => rule_sentence(which, m),
     }
 }
 
@@ -128,13 +129,13 @@ fn slots_of(bundle: &[u8], m: usize, told: Reason) -> Slots
 }
 
 // Puts the sentence, as all functions below put what they make.
-fn put_told(out: &mut [u8], at: usize, bundle: &[u8], m: usize, told: Reason) -> usize
-    ensures { λ r. ⌜ outputAt (now (out .exit)) r ≡ put (outputAt (now (out .entry)) at) (sentenceOf (now (bundle .entry)) m told) ⌝ }
+fn put_told(which: Which, out: &mut [u8], at: usize, bundle: &[u8], m: usize, told: Reason) -> usize
+    ensures { λ r. ⌜ outputAt (now (out .exit)) r ≡ put (outputAt (now (out .entry)) at) (sentenceOf which (now (bundle .entry)) m told) ⌝ }
 {
     let slots = slots_of(bundle, m, told);
     let value = value_shown(bundle, told);
-    let n = sentence_number(m, told);
-    put_sentence(out, at, n, slots, value)
+    let n = sentence_number(which, m, told);
+    put_sentence(which, out, at, n, slots, value)
 }
 
 // ---- The lines of the marks
@@ -151,24 +152,33 @@ fn is_silent(grouped: bool, kind: u32) -> bool
     false
 }
 
-fn put_line(out: &mut [u8], at: usize, bundle: &[u8], m: usize, mark: Mark, told: Reason) -> usize
-    ensures { λ r. ⌜ outputAt (now (out .exit)) r ≡ put (outputAt (now (out .entry)) at) (lineWith (now (bundle .entry)) m mark told) ⌝ }
+fn put_line(
+    which: Which,
+    out: &mut [u8],
+    at: usize,
+    bundle: &[u8],
+    m: usize,
+    mark: Mark,
+    told: Reason,
+) -> usize
+    ensures { λ r. ⌜ outputAt (now (out .exit)) r ≡ put (outputAt (now (out .entry)) at) (lineWith which (now (bundle .entry)) m mark told) ⌝ }
 {
     let space = put_numbers(out, at, m, mark);
     let sentence = put_byte(out, space, b' ');
-    let feed = put_told(out, sentence, bundle, m, told);
+    let feed = put_told(which, out, sentence, bundle, m, told);
     put_byte(out, feed, b'\n')
 }
 
 // What is told of a mark, in a workspace that is long enough.
-fn reason_of(bundle: &[u8], m: usize, work: &mut [u32]) -> Reason
-    requires { ⌜ 794702 ≤ length (now work) ⌝ }
-    ensures { λ r. ⌜ r ≡ reasonOf schedule (now (bundle .entry)) m ⌝ }
+fn reason_of(which: Which, bundle: &[u8], m: usize, work: &mut [u32]) -> Reason
+    requires { ⌜ workspaceOf (gateCalled which) ≤ length (now work) ⌝ }
+    ensures { λ r. ⌜ r ≡ reasonOf (gateCalled which) (now (bundle .entry)) m ⌝ }
 {
-    reason_in(bundle, m, work)
+    reason_lists(which, bundle, m, work)
 }
 
 fn put_mark(
+    which: Which,
     out: &mut [u8],
     at: usize,
     bundle: &[u8],
@@ -177,17 +187,18 @@ fn put_mark(
     mark: Mark,
     work: &mut [u32],
 ) -> usize
-    requires { ⌜ 794702 ≤ length (now work) ⌝ }
-    ensures { λ r. ⌜ outputAt (now (out .exit)) r ≡ put (outputAt (now (out .entry)) at) (reasonLine schedule grouped (now (bundle .entry)) m mark) ⌝ }
+    requires { ⌜ workspaceOf (gateCalled which) ≤ length (now work) ⌝ }
+    ensures { λ r. ⌜ outputAt (now (out .exit)) r ≡ put (outputAt (now (out .entry)) at) (reasonLine which grouped (now (bundle .entry)) m mark) ⌝ }
 {
     if is_silent(grouped, mark.kind) {
         return at;
     }
-    let told = reason_of(bundle, m, work);
-    put_line(out, at, bundle, m, mark, told)
+    let told = reason_of(which, bundle, m, work);
+    put_line(which, out, at, bundle, m, mark, told)
 }
 
 fn put_lines(
+    which: Which,
     out: &mut [u8],
     at: usize,
     bundle: &[u8],
@@ -197,14 +208,14 @@ fn put_lines(
     companions: &[usize],
     work: &mut [u32],
 ) -> usize
-    requires { ⌜ 794702 ≤ length (now work) ⌝ }
-    ensures { λ r. ⌜ outputAt (now (out .exit)) r ≡ put (outputAt (now (out .entry)) at) (reasonLines schedule grouped (now (bundle .entry)) (marksIn (now (kinds .entry)) (now (places .entry)) (now (companions .entry))) (length (now (kinds .entry)))) ⌝ }
+    requires { ⌜ workspaceOf (gateCalled which) ≤ length (now work) ⌝ }
+    ensures { λ r. ⌜ outputAt (now (out .exit)) r ≡ put (outputAt (now (out .entry)) at) (reasonLines which grouped (now (bundle .entry)) (marksIn (now (kinds .entry)) (now (places .entry)) (now (companions .entry))) (length (now (kinds .entry)))) ⌝ }
 {
     let mut end = at;
     let mut m = 0;
     while m < kinds.len() {
         let mark = mark_in(kinds, places, companions, m);
-        end = put_mark(out, end, bundle, grouped, m, mark, work);
+        end = put_mark(which, out, end, bundle, grouped, m, mark, work);
         m += 1;
     }
     end
@@ -212,27 +223,29 @@ fn put_lines(
 
 // ---- The files that keep marks from being judged
 
-fn keeper_of(told: Reason) -> usize
-    ensures { λ r. ⌜ r ≡ keeperOf 20 told ⌝ }
+fn keeper_of(none: usize, told: Reason) -> usize
+    ensures { λ r. ⌜ r ≡ keeperOf none told ⌝ }
 {
     match told {
         Reason::NotJudged { file } => file,
-        _ => FILES,
+        _ => none,
     }
 }
 
-// The file that keeps a mark of a kind from being judged; 20 for none.
-fn keeper_at(bundle: &[u8], m: usize, kind: u32, work: &mut [u32]) -> usize
-    requires { ⌜ 794702 ≤ length (now work) ⌝ }
-    ensures { λ r. ⌜ r ≡ cond (eqb kind 2) (keeperOf 20 (reasonOf schedule (now (bundle .entry)) m)) 20 ⌝ }
+// The file that keeps a mark of a kind from being judged; for none, how many files there are.
+fn keeper_at(which: Which, bundle: &[u8], m: usize, kind: u32, work: &mut [u32]) -> usize
+    requires { ⌜ workspaceOf (gateCalled which) ≤ length (now work) ⌝ }
+    ensures { λ r. ⌜ r ≡ cond (eqb kind 2) (keeperOf (gateCalled which .files) (reasonOf (gateCalled which) (now (bundle .entry)) m)) (gateCalled which .files) ⌝ }
 {
+    let none = file_count(which);
     if kind == 2 {
-        return keeper_of(reason_of(bundle, m, work));
+        return keeper_of(none, reason_of(which, bundle, m, work));
     }
-    FILES
+    none
 }
 
 fn find_keepers(
+    which: Which,
     bundle: &[u8],
     kinds: &[u32],
     places: &[usize],
@@ -240,13 +253,13 @@ fn find_keepers(
     work: &mut [u32],
     keepers: &mut [usize],
 )
-    requires { ⌜ 794702 ≤ length (now work) ⌝ }
-    ensures { λ _. ⌜ now (keepers .exit) ≡ listOf (keeperAt schedule (now (bundle .entry)) (marksIn (now (kinds .entry)) (now (places .entry)) (now (companions .entry)))) (length (now (keepers .entry))) ⌝ }
+    requires { ⌜ workspaceOf (gateCalled which) ≤ length (now work) ⌝ }
+    ensures { λ _. ⌜ now (keepers .exit) ≡ listOf (keeperAt (gateCalled which) (now (bundle .entry)) (marksIn (now (kinds .entry)) (now (places .entry)) (now (companions .entry)))) (length (now (keepers .entry))) ⌝ }
 {
     let mut m = 0;
     while m < keepers.len() {
         let mark = mark_in(kinds, places, companions, m);
-        keepers[m] = keeper_at(bundle, m, mark.kind, work);
+        keepers[m] = keeper_at(which, bundle, m, mark.kind, work);
         m += 1;
     }
 }
@@ -274,7 +287,7 @@ fn count_kept(keepers: &[usize], file: usize) -> usize
 }
 
 fn kept_sentence(n: usize) -> usize
-    ensures { λ r. ⌜ r ≡ cond (eqb n 1) 81 80 ⌝ }
+    ensures { λ r. ⌜ r ≡ cond (eqb n 1) 85 84 ⌝ }
 {
     if n == 1 {
         return KEEPS_ONE;
@@ -283,23 +296,23 @@ fn kept_sentence(n: usize) -> usize
 }
 
 // The line of a file that keeps n marks.
-fn put_kept(out: &mut [u8], at: usize, file: usize, n: usize) -> usize
-    ensures { λ r. ⌜ outputAt (now (out .exit)) r ≡ put (outputAt (now (out .entry)) at) (keptLine file n) ⌝ }
+fn put_kept(which: Which, out: &mut [u8], at: usize, file: usize, n: usize) -> usize
+    ensures { λ r. ⌜ outputAt (now (out .exit)) r ≡ put (outputAt (now (out .entry)) at) (keptLine which file n) ⌝ }
 {
     if n == 0 {
         return at;
     }
-    let feed = put_sentence(out, at, kept_sentence(n), file_slots(file, n), b"");
+    let feed = put_sentence(which, out, at, kept_sentence(n), file_slots(file, n), b"");
     put_byte(out, feed, b'\n')
 }
 
-fn put_keepers(out: &mut [u8], at: usize, keepers: &[usize]) -> usize
-    ensures { λ r. ⌜ outputAt (now (out .exit)) r ≡ put (outputAt (now (out .entry)) at) (keptLines (now (keepers .entry)) 20) ⌝ }
+fn put_keepers(which: Which, out: &mut [u8], at: usize, keepers: &[usize], files: usize) -> usize
+    ensures { λ r. ⌜ outputAt (now (out .exit)) r ≡ put (outputAt (now (out .entry)) at) (keptLines which (now (keepers .entry)) files) ⌝ }
 {
     let mut end = at;
     let mut file = 0;
-    while file < FILES {
-        end = put_kept(out, end, file, count_kept(keepers, file));
+    while file < files {
+        end = put_kept(which, out, end, file, count_kept(keepers, file));
         file += 1;
     }
     end
@@ -307,8 +320,10 @@ fn put_keepers(out: &mut [u8], at: usize, keepers: &[usize]) -> usize
 
 // ---- The whole text
 
-// The lines of the files that keep marks from being judged, where marks are grouped.
+// The lines of the files that keep marks from being judged, where marks are grouped, by way of a list
+// for as many numbers as there are marks.
 fn put_groups(
+    which: Which,
     out: &mut [u8],
     at: usize,
     bundle: &[u8],
@@ -317,20 +332,22 @@ fn put_groups(
     places: &[usize],
     companions: &[usize],
     work: &mut [u32],
+    keepers: &mut [usize],
 ) -> usize
-    requires { ⌜ 794702 ≤ length (now work) ⌝ }
-    requires { ⌜ length (now kinds) ≡ 81 ⌝ }
-    ensures { λ r. ⌜ outputAt (now (out .exit)) r ≡ put (outputAt (now (out .entry)) at) (cond grouped (keptLines (keepersOf schedule (now (bundle .entry)) (marksIn (now (kinds .entry)) (now (places .entry)) (now (companions .entry)))) 20) []) ⌝ }
+    requires { ⌜ workspaceOf (gateCalled which) ≤ length (now work) ⌝ }
+    requires { ⌜ length (now keepers) ≡ length (now kinds) ⌝ }
+    ensures { λ r. ⌜ outputAt (now (out .exit)) r ≡ put (outputAt (now (out .entry)) at) (cond grouped (keptLines which (keepersOf (gateCalled which) (now (bundle .entry)) (marksIn (now (kinds .entry)) (now (places .entry)) (now (companions .entry)))) (gateCalled which .files)) []) ⌝ }
 {
     if !grouped {
         return at;
     }
-    let mut keepers = [FILES; MARKS];
-    find_keepers(bundle, kinds, places, companions, work, &mut keepers);
-    put_keepers(out, at, &keepers)
+    find_keepers(which, bundle, kinds, places, companions, work, keepers);
+    let files = file_count(which);
+    put_keepers(which, out, at, keepers, files)
 }
 
 fn put_marks(
+    which: Which,
     out: &mut [u8],
     bundle: &[u8],
     grouped: bool,
@@ -338,14 +355,26 @@ fn put_marks(
     places: &[usize],
     companions: &[usize],
     work: &mut [u32],
+    keepers: &mut [usize],
 ) -> usize
-    requires { ⌜ 794702 ≤ length (now work) ⌝ }
-    requires { ⌜ length (now kinds) ≡ 81 ⌝ }
-    ensures { λ r. ⌜ outputAt (now (out .exit)) r ≡ put (outputAt (now (out .entry)) 0) (marksText schedule grouped (now (bundle .entry)) (marksIn (now (kinds .entry)) (now (places .entry)) (now (companions .entry)))) ⌝ }
+    requires { ⌜ workspaceOf (gateCalled which) ≤ length (now work) ⌝ }
+    requires { ⌜ length (now keepers) ≡ length (now kinds) ⌝ }
+    ensures { λ r. ⌜ outputAt (now (out .exit)) r ≡ put (outputAt (now (out .entry)) 0) (marksText which grouped (now (bundle .entry)) (marksIn (now (kinds .entry)) (now (places .entry)) (now (companions .entry)))) ⌝ }
 {
     let lines = put_counted(out, 0, b"marks ", kinds.len());
-    let groups = put_lines(out, lines, bundle, grouped, kinds, places, companions, work);
+    let groups = put_lines(
+        which,
+        out,
+        lines,
+        bundle,
+        grouped,
+        kinds,
+        places,
+        companions,
+        work,
+    );
     let last = put_groups(
+        which,
         out,
         groups,
         bundle,
@@ -354,27 +383,81 @@ fn put_marks(
         places,
         companions,
         work,
+        keepers,
     );
     put_last(out, last, kinds)
 }
 
-// Puts the text of a bundle to the front of an output, as far as there is room, and answers how much
-// stands there. The workspace is lent, whatever it holds; one of fewer than 794,702 numbers is refused
-// as 14.
-pub fn reasons(bundle: &[u8], grouped: bool, work: &mut [u32], out: &mut [u8]) -> usize
-    ensures { λ r. ⌜ r ≡ length (take (length (now (out .entry))) (reasonsIn schedule grouped (now (bundle .entry)) (length (now (work .entry))))) ⌝ }
-    ensures { λ _. ⌜ now (out .exit) ≡ frontPut (reasonsIn schedule grouped (now (bundle .entry)) (length (now (work .entry)))) (now (out .entry)) ⌝ }
+// Puts the text by way of lists for the marks and for the files that keep them from being judged, each
+// of as many numbers as the gate has marks.
+fn put_answer(
+    which: Which,
+    out: &mut [u8],
+    bundle: &[u8],
+    grouped: bool,
+    work: &mut [u32],
+    kinds: &mut [u32],
+    places: &mut [usize],
+    companions: &mut [usize],
+    keepers: &mut [usize],
+) -> usize
+    requires { ⌜ workspaceOf (gateCalled which) ≤ length (now work) ⌝ }
+    requires { ⌜ (length (now kinds) ≡ marksOf (gateCalled which)) × (length (now places) ≡ marksOf (gateCalled which)) × (length (now companions) ≡ marksOf (gateCalled which)) × (length (now keepers) ≡ marksOf (gateCalled which)) ⌝ }
+    ensures { λ r. ⌜ outputAt (now (out .exit)) r ≡ put (outputAt (now (out .entry)) 0) (reasonsText which grouped (now (bundle .entry))) ⌝ }
 {
-    if work.len() < WORKSPACE {
+    let made = judge_lists(which, bundle, work, kinds, places, companions);
+    if made.refusal != 0 {
+        return put_counted(out, 0, b"bundle ", made.refusal as usize);
+    }
+    put_marks(
+        which,
+        out,
+        bundle,
+        grouped,
+        kinds,
+        places,
+        companions,
+        work,
+        keepers,
+    )
+}
+
+fn few_marks(which: Which) -> usize
+    ensures { λ r. ⌜ (r ≡ marksOf (gateCalled which)) × (r ≤ 96) ⌝ }
+{
+    mark_count(which)
+}
+
+// Puts the text of a bundle to the front of an output, as far as there is room, and answers how much
+// stands there. The workspace is lent, whatever it holds; one that is too short for the gate is refused
+// as 14.
+pub fn reasons(
+    which: Which,
+    bundle: &[u8],
+    grouped: bool,
+    work: &mut [u32],
+    out: &mut [u8],
+) -> usize
+    ensures { λ r. ⌜ r ≡ length (take (length (now (out .entry))) (reasonsIn which grouped (now (bundle .entry)) (length (now (work .entry))))) ⌝ }
+    ensures { λ _. ⌜ now (out .exit) ≡ frontPut (reasonsIn which grouped (now (bundle .entry)) (length (now (work .entry)))) (now (out .entry)) ⌝ }
+{
+    if work.len() < workspace(which) {
         return put_counted(out, 0, b"bundle ", 14);
     }
-    let verdict = judge_in(bundle, work);
-    if verdict.refusal != 0 {
-        return put_counted(out, 0, b"bundle ", verdict.refusal as usize);
-    }
-    let board = verdict.board;
-    let kinds = board.kinds;
-    let places = board.places;
-    let companions = board.companions;
-    put_marks(out, bundle, grouped, &kinds, &places, &companions, work)
+    let n = few_marks(which);
+    let mut kinds = [2u32; MOST_MARKS];
+    let mut places = [0usize; MOST_MARKS];
+    let mut companions = [0usize; MOST_MARKS];
+    let mut keepers = [0usize; MOST_MARKS];
+    put_answer(
+        which,
+        out,
+        bundle,
+        grouped,
+        work,
+        &mut kinds[..n],
+        &mut places[..n],
+        &mut companions[..n],
+        &mut keepers[..n],
+    )
 }

@@ -13,7 +13,8 @@ use Rattle.output.specs.Output.{outputAt, put}
 use Rattle.output.proofs.Puts.{put-as-far}
 use Rattle.report.specs.Report.{counted, refusalText}
 use Rattle.gate_marks.specs.Again.{hasRoom}
-use Rattle.schedule.specs.Schedule.{schedule}
+use Rattle.gate_lists.specs.declared.Which.the-variants.{Schedule}
+use Rattle.gate_lists.specs.Which.{gateCalled}
 use Rattle.schedule.proofs.Laws.{files-are, workspace-is}
 use Rattle.reason_text.specs.Text.{reasonsIn, frontPut}
 use Rattle.reasons.specs.Printed.{printed}
@@ -27,12 +28,12 @@ too-long s out l h =
     rw (lt-ltb 65536 (length s) l, ap (λ o. o .place) both, ap (λ o. o .bytes) both) (take-append-seam (take (length out) v) (drop (length v) out))
 
 -- and any other, in a workspace of the program's own
-own-text : (s : List ℕ) (lent : ℕ) → length s ≤ 65536 → lent ≡ 794702 → reasonsIn schedule false s lent ≡ printed s
-unfolding printed reasonsIn hasRoom
+own-text : (s : List ℕ) (lent : ℕ) → length s ≤ 65536 → lent ≡ 794702 → reasonsIn Schedule false s lent ≡ printed s
+unfolding printed reasonsIn hasRoom gateCalled
 own-text s lent l e = rw (le-ltb 65536 (length s) l, workspace-is, le-leb 794702 lent (omega arith), files-are)
 
-pub text-read : (s out : List ℕ) (lent : ℕ) → length s ≤ 65536 → lent ≡ 794702 → {exit : List ℕ} {r : ℕ} → r ≡ length (take (length out) (reasonsIn schedule false s lent)) → exit ≡ frontPut (reasonsIn schedule false s lent) out → take r exit ≡ take (length out) (printed s)
+pub text-read : (s out : List ℕ) (lent : ℕ) → length s ≤ 65536 → lent ≡ 794702 → {exit : List ℕ} {r : ℕ} → r ≡ length (take (length out) (reasonsIn Schedule false s lent)) → exit ≡ frontPut (reasonsIn Schedule false s lent) out → take r exit ≡ take (length out) (printed s)
 unfolding frontPut
 text-read s out lent l w e f =
-    let v = reasonsIn schedule false s lent in
+    let v = reasonsIn Schedule false s lent in
     rw (e, f) (take-append-seam (take (length out) v) (drop (length v) out)) ∙ ap (take (length out)) (own-text s lent l w)

@@ -5,9 +5,9 @@ use mathlib.Core.List.{List}
 use lib.ListN.{length}
 use lib.Dec.{ltb}
 use Rattle.report.specs.Report.{refusalText}
-use Rattle.schedule.specs.Schedule.{schedule}
+use Rattle.gate_lists.specs.declared.Which.the-variants.{Schedule}
 use Rattle.reason_text.specs.Text.{reasonsText}
 
 -- "over 65,536 bytes is `bundle 1`"
 unfoldable pub printed : List ℕ → List ℕ
-printed s = cond (ltb 65536 (length s)) (refusalText 1) (reasonsText schedule false s)
+printed s = cond (ltb 65536 (length s)) (refusalText 1) (reasonsText Schedule false s)

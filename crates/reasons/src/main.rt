@@ -3,6 +3,7 @@
 ghost use mathlib.Core.Path.{_≡_};
 ghost use lib.ListN.{length, take};
 ghost use Rattle.reasons.specs.Printed.{printed};
+use gate_lists::Which;
 use libc::STDIN_FILENO;
 use parts::part;
 use program_io::Input;
@@ -20,7 +21,7 @@ fn put_text(bundle: &[u8], out: &mut [u8]) -> usize
         return put_counted(out, 0, b"bundle ", 1);
     }
     let mut work = [0u32; 794702];
-    reasons(bundle, false, &mut work, out)
+    reasons(Which::Schedule, bundle, false, &mut work, out)
 }
 
 // Judges standard input, with memory for the bundle and a byte more, and for the text.

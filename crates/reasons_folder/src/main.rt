@@ -1,20 +1,58 @@
-// Judges the set of files in a folder, and prints its marks as the program `reasons` does, but for marks
-// that aren't judged: these are told file by file.
+// Judges the set of files in a folder, by document 01's gate or with --baseline by the baseline profile,
+// and prints its marks as the program `reasons` does, but for marks that aren't judged: these are told
+// file by file.
+use check::same;
 use folder::argument;
 use folder::gather;
+use gate_lists::Which;
 use parts::part;
 use program_io::complain;
 use program_io::print;
 use reason_text::reasons;
 
-fn print_reasons(bundle: &[u8], work: &mut [u32], text: &mut [u8]) {
-    let n = reasons(bundle, true, work, text);
+// By which gate, and which argument names the folder; or nothing that can be told.
+enum Asked {
+    Of { which: Which, folder: usize },
+    Nothing,
+}
+
+// Whether the first argument is that of the profile.
+fn is_baseline() -> bool {
+    let mut word = [0u8; 16];
+    let n = os::arg(1, &mut word);
+    same(part(&word, 0, n), b"--baseline")
+}
+
+fn what_is_asked() -> Asked {
+    let count = os::arg_count();
+    if count == 2 {
+        return Asked::Of {
+            which: Which::Schedule,
+            folder: 1,
+        };
+    }
+    if count != 3 {
+        return Asked::Nothing;
+    }
+    if is_baseline() {
+        return Asked::Of {
+            which: Which::Baseline,
+            folder: 2,
+        };
+    }
+    Asked::Nothing
+}
+
+fn print_reasons(which: Which, bundle: &[u8], work: &mut [u32], text: &mut [u8]) {
+    let n = reasons(which, bundle, true, work, text);
     print(part(text, 0, n));
 }
 
-// Judges the folder of the first argument, with memory for a file and for two bundles, a workspace, and
+// Judges the folder that an argument names, with memory for a file and for two bundles, a workspace, and
 // memory for the text.
 fn judge_folder(
+    which: Which,
+    named: usize,
     file: &mut [u8],
     bundle: &mut [u8],
     other: &mut [u8],
@@ -22,7 +60,7 @@ fn judge_folder(
     text: &mut [u8],
 ) {
     let mut path = [0u8; 4096];
-    let folder = argument(1, &mut path);
+    let folder = argument(named, &mut path);
     if folder == 0 {
         return;
     }
@@ -30,11 +68,29 @@ fn judge_folder(
     if n == 0 {
         return;
     }
-    print_reasons(part(bundle, 0, n), work, text);
+    print_reasons(which, part(bundle, 0, n), work, text);
+}
+
+// The same with memory of its own.
+fn judge_with_memory(which: Which, named: usize) {
+    let mut file = [0u8; 1048577];
+    let mut bundle = [0u8; 1048577];
+    let mut other = [0u8; 1048577];
+    let mut work = [0u32; 794702];
+    let mut text = [0u8; 65536];
+    judge_folder(
+        which,
+        named,
+        &mut file,
+        &mut bundle,
+        &mut other,
+        &mut work,
+        &mut text,
+    );
 }
 
 fn usage() {
-    complain(b"usage", b"reasons_folder FOLDER");
+    complain(b"usage", b"reasons_folder [--baseline] FOLDER");
     complain(
         b"FOLDER",
         b"holds the files of the set under their own names, FileType.txt and so on; one that is missing is omitted",
@@ -42,14 +98,8 @@ fn usage() {
 }
 
 fn main() {
-    if os::arg_count() != 2 {
-        usage();
-        return;
+    match what_is_asked() {
+        Asked::Of { which, folder } => judge_with_memory(which, folder),
+        Asked::Nothing => usage(),
     }
-    let mut file = [0u8; 1048577];
-    let mut bundle = [0u8; 1048577];
-    let mut other = [0u8; 1048577];
-    let mut work = [0u32; 794702];
-    let mut text = [0u8; 65536];
-    judge_folder(&mut file, &mut bundle, &mut other, &mut work, &mut text);
 }

@@ -80,11 +80,11 @@ raised-from Fraction s h = absurd (omega arith)
 raised-from TooLarge s h = absurd (omega arith)
 
 module _ (t : Table) (level : ℕ) where
-  level-from : (r : ℕ) → levelZero ≤ levelOf t level r → (l : ℕ) × HasLevel t level r l × (levelOf t level r ≡ levelZero + l)
+  pub level-from : (r : ℕ) → levelZero ≤ levelOf t level r → (l : ℕ) × HasLevel t level r l × (levelOf t level r ≡ levelZero + l)
   unfolding levelOf
   level-from r = raised-from (integerIn t r level) (λ m. integer-signed t r level)
 
-  level-is : (r l : ℕ) → HasLevel t level r l → levelOf t level r ≡ levelZero + l
+  pub level-is : (r l : ℕ) → HasLevel t level r l → levelOf t level r ≡ levelZero + l
   unfolding levelOf raised
   level-is r l e = rw e
 

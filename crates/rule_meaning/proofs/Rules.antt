@@ -18,7 +18,7 @@ use Rattle.rule_hours.specs.Hours.{firstField, anyField, belowZero, isBelow, is
 use Rattle.rule_hours.proofs.Laws.{before-first, first-passes, none-shows}
 use Rattle.rule_outline.specs.declared.Outline.{Outline}
 use Rattle.rule_shape.specs.declared.Rule.{Rule}
-use Rattle.rule_shape.specs.declared.Rule.the-variants.{KeyOf, OneOf, NullUnless, GivenIf, GivenUnless, NoneBelow, SomeAbove, Together, LevelRun, ParentGiven, AllGiven, NoneGiven, InOrder, TargetIn, ParentIs, EachHas}
+use Rattle.rule_shape.specs.declared.Rule.the-variants.{KeyOf, OneOf, NullUnless, GivenIf, GivenUnless, NoneBelow, SomeAbove, Together, LevelRun, ParentGiven, AllGiven, NoneGiven, InOrder, TreeLevels, TreeParent, TargetIn, ParentIs, LeafIn, EachHas}
 use Rattle.rules.specs.Judge.{parentBreak, ruleBreak, markOf}
 use Rattle.rules.proofs.Companion.{Broken, broken}
 use Rattle.rule_reason.specs.Reason.{decidingField}
@@ -30,6 +30,7 @@ use Rattle.rule_meaning.proofs.Values.{enumeration-means, null-unless-m
 use Rattle.rule_meaning.proofs.Dates.{in-order-means}
 use Rattle.rule_meaning.proofs.Levels.{level-run-means}
 use Rattle.rule_meaning.proofs.Parents.{parent-means, parent-type-means}
+use Rattle.rule_meaning.proofs.Trees.{tree-levels-mean, tree-parents-mean, leaves-mean, no-leaf}
 
 -- ---- The first field of a run that passes a test, where some field does
 first-of-run : (test : ℕ → Bool) (Asked : ℕ → Type 0) (from to : ℕ) → ((k : ℕ) → (test k ≡ true) ↔ Asked k) → anyField test from to ≡ true → FirstOfRun Asked from to (firstField test from to)
@@ -84,9 +85,12 @@ module _ (places texts : List ℕ) (t u : Table) (few : t .records ≤ 4096) whe
   rule-means (AllGiven file from to) = all-given-means t from to
   rule-means (NoneGiven file from to) = none-given-means t from to
   rule-means (InOrder file first second) = in-order-means t first second
+  rule-means (TreeLevels file level) = tree-levels-mean t level
+  rule-means (TreeParent file parent level id) = rw outline-found (tree-parents-mean t level id parent)
   rule-means (TargetIn file field when other id) = target-means t field places texts when u id
   rule-means (ParentIs file parent level id other otherID otherType value) =
       rw outline-found (parent-type-means t level id u otherID otherType (valueTextAt places texts value))
+  rule-means (LeafIn file field other id level) = leaves-mean t field u id level
   rule-means (EachHas file field when other id) = target-means t field places texts when u id
 
   -- the deciding field of a broken rule
@@ -123,8 +127,13 @@ module _ (places texts : List ℕ) (t u : Table) (few : t .records ≤ 4096) whe
         (not-false-true (anyField (isGiven (t .cells) (t .width) r) from to) (λ e. broken (λ k a b g. never-both g (none-shows (isGiven (t .cells) (t .width) r) from to e k a b))))
     decides (InOrder file first second) broken =
         (refl, not-false-true (isGiven (t .cells) (t .width) r first) (λ e. broken (λ g _ _. never-both g e)))
+    decides (TreeLevels file level) broken = refl
+    decides (TreeParent file parent level id) broken = refl
     decides (TargetIn file field when other id) broken = (refl, is-missing t field when u id places texts r broken)
     decides (ParentIs file parent level id other otherID otherType value) broken = refl
+    decides (LeafIn file field other id level) broken =
+        (let w = no-leaf t field u id level r broken in
+        (refl, w .0, w .1))
     decides (EachHas file field when other id) broken = (refl, is-missing t field when u id places texts r broken)
 
     pub field-decides : (rule : Rule) → ruleBreak places texts rule t u .«record» ≡ r + 1 → Decides places texts rule t u r (decidingField rule t r)

@@ -9,8 +9,8 @@ use Rattle.rule_cells.specs.Cells.{Table, sameText, signIn}
 use Rattle.rule_when.specs.When.{isValue}
 use Rattle.rule_when.specs.declared.When.{When}
 use Rattle.rule_shape.specs.declared.Rule.{Rule}
-use Rattle.rule_shape.specs.declared.Rule.the-variants.{KeyOf, OneOf, NullUnless, GivenIf, GivenUnless, NoneBelow, SomeAbove, Together, LevelRun, ParentGiven, AllGiven, NoneGiven, InOrder, TargetIn, ParentIs, EachHas}
-use Rattle.rule_meaning.specs.Keeps.{Given, Meets, Keeps}
+use Rattle.rule_shape.specs.declared.Rule.the-variants.{KeyOf, OneOf, NullUnless, GivenIf, GivenUnless, NoneBelow, SomeAbove, Together, LevelRun, ParentGiven, AllGiven, NoneGiven, InOrder, TreeLevels, TreeParent, TargetIn, ParentIs, LeafIn, EachHas}
+use Rattle.rule_meaning.specs.Keeps.{Given, Meets, NamesParentOf, Keeps}
 
 -- field k of record r is null
 abbrev pub IsNull : Table → ℕ → ℕ → Type 0
@@ -54,6 +54,11 @@ Decides places texts (InOrder file first second) t u r k = (k ≡ first) × Give
 Decides places texts (LevelRun file level) t u r k = k ≡ level
 Decides places texts (ParentGiven file parent level id) t u r k = k ≡ parent
 Decides places texts (ParentIs file parent level id other otherID otherType value) t u r k = k ≡ parent
+-- of order 9 the Level, the parent's ID as the record has it, and the ID of an element that has a child
+Decides places texts (TreeLevels file level) t u r k = k ≡ level
+Decides places texts (TreeParent file parent level id) t u r k = k ≡ parent
+Decides places texts (LeafIn file field other id level) t u r k =
+    (k ≡ field) × Given t k r × ((q : ℕ) × (c : ℕ) × NamesParentOf t k u id level r q c)
 -- a value that no record of the table searched has
 Decides places texts (TargetIn file field when other id) t u r k = (k ≡ field) × IsMissing t k when u id places texts r
 Decides places texts (EachHas file field when other id) t u r k = (k ≡ field) × IsMissing t k when u id places texts r

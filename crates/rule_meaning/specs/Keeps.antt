@@ -17,7 +17,7 @@ use Rattle.rule_key.specs.Key.{sameKey}
 use Rattle.rule_key.specs.declared.Key.{Key}
 use Rattle.rule_outline.specs.Outline.{parentOf}
 use Rattle.rule_shape.specs.declared.Rule.{Rule}
-use Rattle.rule_shape.specs.declared.Rule.the-variants.{KeyOf, OneOf, NullUnless, GivenIf, GivenUnless, NoneBelow, SomeAbove, Together, LevelRun, ParentGiven, AllGiven, NoneGiven, InOrder, TargetIn, ParentIs, EachHas}
+use Rattle.rule_shape.specs.declared.Rule.the-variants.{KeyOf, OneOf, NullUnless, GivenIf, GivenUnless, NoneBelow, SomeAbove, Together, LevelRun, ParentGiven, AllGiven, NoneGiven, InOrder, TreeLevels, TreeParent, TargetIn, ParentIs, LeafIn, EachHas}
 
 -- ---- "Kind 1: broken, place the first breaking record", of n records
 pub record Answers (Keeps : ℕ → Type 0) (n answer : ℕ) : Type 0 where
@@ -115,6 +115,30 @@ abbrev pub ParentIsTyped : Table → ℕ → ℕ → Table → ℕ → ℕ → L
 ParentIsTyped t level task u id type word r =
     (HasLevel t level r 1 → ⊥) → (q : ℕ) → parentOf t level r ≡ q + 1 → (x : ℕ) × (x < u .records) × (sameText t q task u x id ≡ true) × (isWord u x type word ≡ true)
 
+-- ---- The tree of document 02, order 9
+-- "Only the first .. record may have Level 1": the first has it, any other at least 2, and at most one more than the one before
+pub record KeepsTree (t : Table) (level r : ℕ) : Type 0 where
+  pub l : ℕ
+  pub here : HasLevel t level r l
+  pub first : r ≡ 0 → l ≡ 1
+  pub later : (q : ℕ) → r ≡ q + 1 → (2 ≤ l) × ((b : ℕ) × HasLevel t level q b × (l ≤ b + 1))
+
+-- "and only it has no parent": the first has a null ParentID, any other the ID of its parent
+pub record HasTreeParent (t : Table) (level id parent r : ℕ) : Type 0 where
+  pub first : r ≡ 0 → Given t parent r → ⊥
+  pub other : (r ≡ 0 → ⊥) → (q : ℕ) × (parentOf t level r ≡ q + 1) × Given t parent r × (sameText t r parent t q id ≡ true)
+
+-- element q is named in field k of record r, and is the parent of element c
+pub record NamesParentOf (t : Table) (k : ℕ) (u : Table) (id level r q c : ℕ) : Type 0 where
+  pub inside : q < u .records
+  pub same : sameText t r k u q id ≡ true
+  pub child-inside : c < u .records
+  pub child : parentOf u level c ≡ q + 1
+
+-- no element that a record names is the parent of any; "with no match it holds"
+abbrev pub NamesLeaf : Table → ℕ → Table → ℕ → ℕ → ℕ → Type 0
+NamesLeaf t k u id level r = Given t k r → (q c : ℕ) → NamesParentOf t k u id level r q c → ⊥
+
 -- ---- Any rule, by its shape: what it asks of record r of the table t that it judges, beside the table u that it looks into, with
 -- the places and the texts of the enumeration values
 abbrev pub Keeps : List ℕ → List ℕ → Rule → Table → Table → ℕ → Type 0
@@ -131,7 +155,10 @@ Keeps places texts (ParentGiven file parent level id) t u r = HasItsParent t lev
 Keeps places texts (AllGiven file from to) t u r = AllAreGiven t from to r
 Keeps places texts (NoneGiven file from to) t u r = NoneIsGiven t from to r
 Keeps places texts (InOrder file first second) t u r = DatesInOrder t first second r
+Keeps places texts (TreeLevels file level) t u r = KeepsTree t level r
+Keeps places texts (TreeParent file parent level id) t u r = HasTreeParent t level id parent r
 Keeps places texts (TargetIn file field when other id) t u r = HasItsTarget t field when u id places texts r
 Keeps places texts (ParentIs file parent level id other otherID otherType value) t u r =
     ParentIsTyped t level id u otherID otherType (valueTextAt places texts value) r
+Keeps places texts (LeafIn file field other id level) t u r = NamesLeaf t field u id level r
 Keeps places texts (EachHas file field when other id) t u r = HasItsTarget t field when u id places texts r

@@ -28,7 +28,7 @@ use Rattle.rule_outline.specs.Outline.{
 use Rattle.rule_outline.proofs.Parents.{parents-length, parents-at}
 
 -- ---- The first breaking record depends on what each of the records does, and on nothing else
-first-same : (f g : ℕ → Bool) (n : ℕ) → ((r : ℕ) → r < n → f r ≡ g r) → firstOf f n ≡ firstOf g n
+pub first-same : (f g : ℕ → Bool) (n : ℕ) → ((r : ℕ) → r < n → f r ≡ g r) → firstOf f n ≡ firstOf g n
 first-same f g n h = told (firstOf f n) refl
   where
     told : (k : ℕ) → firstOf f n ≡ k → firstOf f n ≡ firstOf g n

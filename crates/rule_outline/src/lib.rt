@@ -14,7 +14,7 @@ use rule_cells::same_in;
 // Levels are kept ten to the fifteenth higher, so that none is below 0.
 const LEVEL_ZERO: u64 = 1_000_000_000_000_000;
 
-const LEVEL_ONE: u64 = 1_000_000_000_000_001;
+pub const LEVEL_ONE: u64 = 1_000_000_000_000_001;
 
 // The first breaking record and its parent, both counted from 1. No record: 0 and 0. The parent is
 // 0 where the record has none, or is of Level 1.
@@ -24,7 +24,7 @@ pub struct Outline {
 }
 
 // The Level of record r.
-fn level_of(s: &[u8], cells: &[u32], width: usize, r: usize, level: usize) -> u64
+pub fn level_of(s: &[u8], cells: &[u32], width: usize, r: usize, level: usize) -> u64
     ensures { λ x. ⌜ x ≡ levelOf (table (now (s .entry)) (now (cells .entry)) width 0) level r ⌝ }
 {
     match integer_in(s, cells, width, r, level) {
@@ -118,7 +118,7 @@ pub fn fill_parents(
 }
 
 // The parent that a list has for record r; 0 past its end.
-fn parent_in(parents: &[u32], r: usize) -> usize
+pub fn parent_in(parents: &[u32], r: usize) -> usize
     ensures { λ x. ⌜ x ≡ heldIn (now (parents .entry)) r ⌝ }
 {
     if r < parents.len() {

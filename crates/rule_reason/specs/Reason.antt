@@ -5,7 +5,7 @@ use Prim.Native.Nat.{ℕ}
 use Rattle.rule_cells.specs.Cells.{Table, isGiven}
 use Rattle.rule_hours.specs.Hours.{firstField, isBelow, isNull}
 use Rattle.rule_shape.specs.declared.Rule.{Rule}
-use Rattle.rule_shape.specs.declared.Rule.the-variants.{KeyOf, OneOf, NullUnless, GivenIf, GivenUnless, NoneBelow, SomeAbove, Together, LevelRun, ParentGiven, AllGiven, NoneGiven, InOrder, TargetIn, ParentIs, EachHas}
+use Rattle.rule_shape.specs.declared.Rule.the-variants.{KeyOf, OneOf, NullUnless, GivenIf, GivenUnless, NoneBelow, SomeAbove, Together, LevelRun, ParentGiven, AllGiven, NoneGiven, InOrder, TreeLevels, TreeParent, TargetIn, ParentIs, LeafIn, EachHas}
 use Rattle.rule_reason.specs.declared.Searched.{Searched}
 use Rattle.rule_reason.specs.declared.Searched.the-variants.{In, Nowhere}
 
@@ -37,6 +37,10 @@ decidingField (NoneBelow file from to) t r = firstField (isBelow t r) from to
 decidingField (AllGiven file from to) t r = firstField (isNull (t .cells) (t .width) r) from to
 decidingField (NoneGiven file from to) t r = firstField (isGiven (t .cells) (t .width) r) from to
 decidingField (InOrder file first second) t r = first
+-- of order 9's marks levels by Level, parents by ParentID, leaves by the element that is named
+decidingField (TreeLevels file level) t r = level
+decidingField (TreeParent file parent level id) t r = parent
+decidingField (LeafIn file field other id level) t r = field
 
 -- ---- "A missing target names the table searched": document 01 heads 48–64 alone with "targets"
 unfoldable pub searchedIn : Rule → Searched
@@ -54,5 +58,8 @@ searchedIn (ParentGiven file parent level id) = Nowhere
 searchedIn (AllGiven file from to) = Nowhere
 searchedIn (NoneGiven file from to) = Nowhere
 searchedIn (InOrder file first second) = Nowhere
+searchedIn (TreeLevels file level) = Nowhere
+searchedIn (TreeParent file parent level id) = Nowhere
+searchedIn (LeafIn file field other id level) = Nowhere
 searchedIn (ParentIs file parent level id other otherID otherType value) = Nowhere
 searchedIn (EachHas file field when other id) = Nowhere

@@ -42,8 +42,11 @@ pub fn deciding_field(
         Rule::AllGiven { from, to, .. } => first_null(cells, width, r, from, to),
         Rule::NoneGiven { from, to, .. } => first_given(cells, width, r, from, to),
         Rule::InOrder { first, .. } => first,
+        Rule::TreeLevels { level, .. } => level,
+        Rule::TreeParent { parent, .. } => parent,
         Rule::TargetIn { field, .. } => field,
         Rule::ParentIs { parent, .. } => parent,
+        Rule::LeafIn { field, .. } => field,
         Rule::EachHas { field, .. } => field,
     }
 }

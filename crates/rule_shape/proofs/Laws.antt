@@ -9,7 +9,7 @@ use lib.ListN.{length, getD, replicate, length-append, List·getD-eq-default, Li
 use lib.Seq.{getD-append-add}
 use Rattle.table_rows.specs.Rows.{cellAt}
 use Rattle.rule_shape.specs.declared.Rule.{Rule}
-use Rattle.rule_shape.specs.declared.Rule.the-variants.{KeyOf, OneOf, NullUnless, GivenIf, GivenUnless, NoneBelow, SomeAbove, Together, LevelRun, ParentGiven, AllGiven, NoneGiven, InOrder, TargetIn, ParentIs, EachHas}
+use Rattle.rule_shape.specs.declared.Rule.the-variants.{KeyOf, OneOf, NullUnless, GivenIf, GivenUnless, NoneBelow, SomeAbove, Together, LevelRun, ParentGiven, AllGiven, NoneGiven, InOrder, TreeLevels, TreeParent, TargetIn, ParentIs, LeafIn, EachHas}
 use Rattle.rule_shape.specs.Rule.{condition, firstOf, secondOf, rowOf, shapesOf, ruleOf, ruleFrom, rulesFrom, rulesIn}
 
 -- ---- The files of a row. In a list that holds one number and that number past its end:
@@ -29,18 +29,18 @@ behind zero k n a b h = alike k n b
 behind (suc m) k zero a b h = absurd (not-suc-le-zero h)
 behind (suc m) k (suc n) a b h = behind m k n a b (omega arith)
 
--- the first file is the row's second number; a shape from 13 on looks into the file that is its third
+-- the first file is the row's second number; a shape from 15 on looks into the file that is its third
 module _ (shape file other field a b c d e : ℕ) where
   first-of : firstOf (ruleOf shape file other field a b c d e) ≡ file
   unfolding ruleOf shapesOf firstOf
-  first-of = sym (List·getD-map firstOf (shapesOf file other field a b c d e) shape (EachHas file field (condition a b c d) other e)) ∙ alike 15 shape file
+  first-of = sym (List·getD-map firstOf (shapesOf file other field a b c d e) shape (EachHas file field (condition a b c d) other e)) ∙ alike 18 shape file
 
-  second-of : secondOf (ruleOf shape file other field a b c d e) ≡ getD (replicate 13 file ++ replicate 2 other) shape other
+  second-of : secondOf (ruleOf shape file other field a b c d e) ≡ getD (replicate 15 file ++ replicate 3 other) shape other
   unfolding ruleOf shapesOf secondOf
   second-of = sym (List·getD-map secondOf (shapesOf file other field a b c d e) shape (EachHas file field (condition a b c d) other e))
 
   -- and any shape past the others is the last
-  pub last-shape : 15 ≤ shape → ruleOf shape file other field a b c d e ≡ EachHas file field (condition a b c d) other e
+  pub last-shape : 18 ≤ shape → ruleOf shape file other field a b c d e ≡ EachHas file field (condition a b c d) other e
   unfolding ruleOf shapesOf
   last-shape h = List·getD-eq-default (shapesOf file other field a b c d e) (EachHas file field (condition a b c d) other e) h
 
@@ -49,13 +49,13 @@ module _ (rows : List ℕ) (i : ℕ) where
   unfolding ruleFrom
   first-is = first-of _ _ _ _ _ _ _ _ _
 
-  pub second-own : cellAt rows 9 i 0 < 13 → secondOf (ruleFrom rows i) ≡ cellAt rows 9 i 1
+  pub second-own : cellAt rows 9 i 0 < 15 → secondOf (ruleFrom rows i) ≡ cellAt rows 9 i 1
   unfolding ruleFrom
-  second-own h = second-of _ _ _ _ _ _ _ _ _ ∙ front 13 2 _ _ _ h
+  second-own h = second-of _ _ _ _ _ _ _ _ _ ∙ front 15 3 _ _ _ h
 
-  pub second-other : 13 ≤ cellAt rows 9 i 0 → secondOf (ruleFrom rows i) ≡ cellAt rows 9 i 2
+  pub second-other : 15 ≤ cellAt rows 9 i 0 → secondOf (ruleFrom rows i) ≡ cellAt rows 9 i 2
   unfolding ruleFrom
-  second-other h = second-of _ _ _ _ _ _ _ _ _ ∙ behind 13 2 _ _ _ h
+  second-other h = second-of _ _ _ _ _ _ _ _ _ ∙ behind 15 3 _ _ _ h
 
 -- ---- The rules of any rows: as many as there are rows, each the rule of its row
 module _ (rows : List ℕ) where
@@ -94,8 +94,11 @@ row-length (ParentGiven file parent level id) = refl
 row-length (AllGiven file from to) = refl
 row-length (NoneGiven file from to) = refl
 row-length (InOrder file first second) = refl
+row-length (TreeLevels file level) = refl
+row-length (TreeParent file parent level id) = refl
 row-length (TargetIn file field when other id) = refl
 row-length (ParentIs file parent level id other otherID otherType value) = refl
+row-length (LeafIn file field other id level) = refl
 row-length (EachHas file field when other id) = refl
 
 row-first : (r : Rule) (rest : List ℕ) → ruleFrom (rowOf r ++ rest) 0 ≡ r
@@ -113,8 +116,11 @@ row-first (ParentGiven file parent level id) rest = refl
 row-first (AllGiven file from to) rest = refl
 row-first (NoneGiven file from to) rest = refl
 row-first (InOrder file first second) rest = refl
+row-first (TreeLevels file level) rest = refl
+row-first (TreeParent file parent level id) rest = refl
 row-first (TargetIn file field when other id) rest = refl
 row-first (ParentIs file parent level id other otherID otherType value) rest = refl
+row-first (LeafIn file field other id level) rest = refl
 row-first (EachHas file field when other id) rest = refl
 
 pub row-back : (r : Rule) → ruleFrom (rowOf r) 0 ≡ r

@@ -9,7 +9,7 @@ use Rattle.table_rows.specs.Rows.{cellAt}
 use Rattle.rule_key.specs.declared.Key.{Key}
 use Rattle.rule_when.specs.declared.When.{When}
 use Rattle.rule_shape.specs.declared.Rule.{Rule}
-use Rattle.rule_shape.specs.declared.Rule.the-variants.{KeyOf, OneOf, NullUnless, GivenIf, GivenUnless, NoneBelow, SomeAbove, Together, LevelRun, ParentGiven, AllGiven, NoneGiven, InOrder, TargetIn, ParentIs, EachHas}
+use Rattle.rule_shape.specs.declared.Rule.the-variants.{KeyOf, OneOf, NullUnless, GivenIf, GivenUnless, NoneBelow, SomeAbove, Together, LevelRun, ParentGiven, AllGiven, NoneGiven, InOrder, TreeLevels, TreeParent, TargetIn, ParentIs, LeafIn, EachHas}
 
 -- ---- What a rule reads. "place the first breaking record of the table named first": the file whose records it judges
 unfoldable pub firstOf : Rule → ℕ
@@ -26,8 +26,11 @@ firstOf (ParentGiven file parent level id) = file
 firstOf (AllGiven file from to) = file
 firstOf (NoneGiven file from to) = file
 firstOf (InOrder file first second) = file
+firstOf (TreeLevels file level) = file
+firstOf (TreeParent file parent level id) = file
 firstOf (TargetIn file field when other id) = file
 firstOf (ParentIs file parent level id other otherID otherType value) = file
+firstOf (LeafIn file field other id level) = file
 firstOf (EachHas file field when other id) = file
 
 -- the file it looks into; a rule that looks into no other looks into its own
@@ -45,8 +48,11 @@ secondOf (ParentGiven file parent level id) = file
 secondOf (AllGiven file from to) = file
 secondOf (NoneGiven file from to) = file
 secondOf (InOrder file first second) = file
+secondOf (TreeLevels file level) = file
+secondOf (TreeParent file parent level id) = file
 secondOf (TargetIn file field when other id) = other
 secondOf (ParentIs file parent level id other otherID otherType value) = other
+secondOf (LeafIn file field other id level) = other
 secondOf (EachHas file field when other id) = other
 
 -- "A rule reads only the files named in its line."
@@ -72,12 +78,15 @@ rowOf (ParentGiven file parent level id) = 9 ∷ file ∷ file ∷ parent ∷ le
 rowOf (AllGiven file from to) = 10 ∷ file ∷ file ∷ from ∷ to ∷ 0 ∷ 0 ∷ 0 ∷ 0 ∷ []
 rowOf (NoneGiven file from to) = 11 ∷ file ∷ file ∷ from ∷ to ∷ 0 ∷ 0 ∷ 0 ∷ 0 ∷ []
 rowOf (InOrder file first second) = 12 ∷ file ∷ file ∷ first ∷ second ∷ 0 ∷ 0 ∷ 0 ∷ 0 ∷ []
+rowOf (TreeLevels file level) = 13 ∷ file ∷ file ∷ level ∷ 0 ∷ 0 ∷ 0 ∷ 0 ∷ 0 ∷ []
+rowOf (TreeParent file parent level id) = 14 ∷ file ∷ file ∷ parent ∷ level ∷ id ∷ 0 ∷ 0 ∷ 0 ∷ []
 rowOf (TargetIn file field when other id) =
-    13 ∷ file ∷ other ∷ field ∷ when .kind ∷ when .field ∷ when .first ∷ when .second ∷ id ∷ []
-rowOf (ParentIs file parent level id other otherID otherType value) =
-    14 ∷ file ∷ other ∷ parent ∷ level ∷ id ∷ otherID ∷ otherType ∷ value ∷ []
-rowOf (EachHas file field when other id) =
     15 ∷ file ∷ other ∷ field ∷ when .kind ∷ when .field ∷ when .first ∷ when .second ∷ id ∷ []
+rowOf (ParentIs file parent level id other otherID otherType value) =
+    16 ∷ file ∷ other ∷ parent ∷ level ∷ id ∷ otherID ∷ otherType ∷ value ∷ []
+rowOf (LeafIn file field other id level) = 17 ∷ file ∷ other ∷ field ∷ id ∷ level ∷ 0 ∷ 0 ∷ 0 ∷ []
+rowOf (EachHas file field when other id) =
+    18 ∷ file ∷ other ∷ field ∷ when .kind ∷ when .field ∷ when .first ∷ when .second ∷ id ∷ []
 
 -- ---- Read back
 abbrev pub key : ℕ → ℕ → ℕ → ℕ → ℕ → ℕ → Key
@@ -102,8 +111,11 @@ shapesOf file other field a b c d e =
     ∷ AllGiven file field a
     ∷ NoneGiven file field a
     ∷ InOrder file field a
+    ∷ TreeLevels file field
+    ∷ TreeParent file field a b
     ∷ TargetIn file field (condition a b c d) other e
     ∷ ParentIs file field a b other c d e
+    ∷ LeafIn file field other a b
     ∷ []
 
 -- the rule of a row: any shape past these is the last

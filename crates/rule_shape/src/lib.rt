@@ -92,6 +92,19 @@ pub enum Rule {
         first: usize,
         second: usize,
     },
+    // Document 02, order 9, the contract side. 13, 14: the first Level is 1, every other at least 2 and at
+    // most one more than the one before.
+    TreeLevels {
+        file: usize,
+        level: usize,
+    },
+    // 15, 16: the first record has a null parent; any other has the `id` of its parent.
+    TreeParent {
+        file: usize,
+        parent: usize,
+        level: usize,
+        id: usize,
+    },
     // 48–64, "targets": where the record meets the condition, some record of the other file has the
     // field's value as its `id`; "Null holds."
     TargetIn {
@@ -112,6 +125,15 @@ pub enum Rule {
         other_id: usize,
         other_type: usize,
         value: usize,
+    },
+    // Document 02, order 9, 17, 18: no record of the other file that has the field's value as its `id` has
+    // a child by Level and sequence.
+    LeafIn {
+        file: usize,
+        field: usize,
+        other: usize,
+        id: usize,
+        level: usize,
     },
     // 67, 73, 74: "each calendar has a workshift" and the like. It asks what `TargetIn` does, but of the
     // record that something must stand for, so it is no missing target where it breaks.
@@ -156,7 +178,7 @@ pub fn first_file(rows: &[u32], i: usize) -> usize
 pub fn second_file(rows: &[u32], i: usize) -> usize
     ensures { λ r. ⌜ r ≡ secondOf (ruleFrom (now (rows .entry)) i) ⌝ }
 {
-    if row_cell(rows, i, 0) < 13 {
+    if row_cell(rows, i, 0) < 15 {
         return column(rows, i, 1);
     }
     column(rows, i, 2)
@@ -242,14 +264,21 @@ fn rule_of(
             first: field,
             second: a as usize,
         },
-        13 => Rule::TargetIn {
+        13 => Rule::TreeLevels { file, level: field },
+        14 => Rule::TreeParent {
+            file,
+            parent: field,
+            level: a as usize,
+            id: b as usize,
+        },
+        15 => Rule::TargetIn {
             file,
             field,
             when,
             other,
             id: e as usize,
         },
-        14 => Rule::ParentIs {
+        16 => Rule::ParentIs {
             file,
             parent: field,
             level: a as usize,
@@ -258,6 +287,13 @@ fn rule_of(
             other_id: c as usize,
             other_type: d as usize,
             value: e as usize,
+        },
+        17 => Rule::LeafIn {
+            file,
+            field,
+            other,
+            id: a as usize,
+            level: b as usize,
         },
         _ => Rule::EachHas {
             file,

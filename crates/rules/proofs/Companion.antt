@@ -19,8 +19,9 @@ use Rattle.rule_key.specs.Key.{keyRule}
 use Rattle.rule_key.proofs.Laws.{Repeat, breaks-repeat}
 use Rattle.rule_outline.specs.Outline.{levelOne, levelOf, parentBy, parentOf, parentShown, outlineAt, parentRule, parentTypeRule}
 use Rattle.rule_outline.proofs.Parents.{IsParent, parent-is-nearest, nearest-is-parent}
+use Rattle.rule_tree.specs.Tree.{withParent, treeParentRule}
 use Rattle.rule_shape.specs.declared.Rule.{Rule}
-use Rattle.rule_shape.specs.declared.Rule.the-variants.{KeyOf, OneOf, NullUnless, GivenIf, GivenUnless, NoneBelow, SomeAbove, Together, LevelRun, ParentGiven, AllGiven, NoneGiven, InOrder, TargetIn, ParentIs, EachHas}
+use Rattle.rule_shape.specs.declared.Rule.the-variants.{KeyOf, OneOf, NullUnless, GivenIf, GivenUnless, NoneBelow, SomeAbove, Together, LevelRun, ParentGiven, AllGiven, NoneGiven, InOrder, TreeLevels, TreeParent, TargetIn, ParentIs, LeafIn, EachHas}
 use Rattle.rules.specs.declared.Break.{Break}
 use Rattle.rules.specs.Judge.{alone, ofOutline, parentBreak, ruleBreak, markOf}
 
@@ -106,7 +107,35 @@ outlined judged t level k h = go (leb (t .records) 4096) k (broken judged _ h)
     go true (suc r) w = (r, (w .place-is ∙ sym (add-one r), rw (w .companion-is) (shown (levelOf t level) r)))
     go false k w = absurd (w .some refl)
 
--- ---- The three statements, of the mark of any rule over any tables
+-- ---- What a tree's record names: its parent, or 0, and that exactly if it has none
+pub record ParentOrZero (levels : ℕ → ℕ) (r companion : ℕ) : Type 0 where
+  pub parent : (q : ℕ) → companion ≡ q + 1 → IsParent levels r q
+  pub none : (companion ≡ 0) ↔ ((q : ℕ) → IsParent levels r q → ⊥)
+
+tree-shown : (levels : ℕ → ℕ) (r : ℕ) → ParentOrZero levels r (parentBy levels r)
+tree-shown levels r = record {
+  parent = λ q e. parent-is-nearest levels r q (e ∙ add-one q);
+  none = (λ e q p. omega (arith, nearest-is-parent levels r q p), λ n. go (parentBy levels r) refl n);
+}
+  where
+    go : (p : ℕ) → parentBy levels r ≡ p → ((q : ℕ) → IsParent levels r q → ⊥) → parentBy levels r ≡ 0
+    go zero e n = e
+    go (suc q) e n = absurd (n q (parent-is-nearest levels r q e))
+
+-- a mark that is broken at a record of a tree
+abbrev InTree : Table → ℕ → Mark → Type 0
+InTree t level m = (r : ℕ) × ((m .place ≡ r + 1) × ParentOrZero (levelOf t level) r (m .companion))
+
+in-tree : (judged : Bool) (t : Table) (level k : ℕ) → markOf judged (parentBreak t (withParent (parentOf t level) k)) .kind ≡ 1 → InTree t level (markOf judged (parentBreak t (withParent (parentOf t level) k)))
+unfolding parentBreak withParent
+in-tree judged t level k h = go (leb (t .records) 4096) k (broken judged _ h)
+  where
+    go : (few : Bool) (k : ℕ) {m : Mark} → Broken m (cond few (ofOutline (withParent (parentOf t level) k)) (alone 0)) → InTree t level m
+    go true zero w = absurd (w .some refl)
+    go true (suc r) w = (r, (w .place-is ∙ sym (add-one r), rw (w .companion-is) (tree-shown (levelOf t level) r)))
+    go false k w = absurd (w .some refl)
+
+-- ---- The statements, of the mark of any rule over any tables
 -- rules whose break names another record
 unfoldable pub namesCompanion : Rule → Bool
 namesCompanion (KeyOf file key) = true
@@ -122,8 +151,11 @@ namesCompanion (ParentGiven file parent level id) = true
 namesCompanion (AllGiven file from to) = false
 namesCompanion (NoneGiven file from to) = false
 namesCompanion (InOrder file first second) = false
+namesCompanion (TreeLevels file level) = false
+namesCompanion (TreeParent file parent level id) = true
 namesCompanion (TargetIn file field when other id) = false
 namesCompanion (ParentIs file parent level id other otherID otherType value) = true
+namesCompanion (LeafIn file field other id level) = false
 namesCompanion (EachHas file field when other id) = false
 
 module _ (judged : Bool) (places texts : List ℕ) (t u : Table) where
@@ -155,6 +187,10 @@ module _ (judged : Bool) (places texts : List ℕ) (t u : Table) where
   unfolding ruleBreak parentTypeRule
   companion-of-parent-type file parent level id other otherID otherType value h = outlined judged t level _ h
 
+  pub companion-of-tree-parent : (file parent level id : ℕ) → markBy (TreeParent file parent level id) .kind ≡ 1 → InTree t level (markBy (TreeParent file parent level id))
+  unfolding ruleBreak treeParentRule
+  companion-of-tree-parent file parent level id h = in-tree judged t level _ h
+
   -- "otherwise 0": of a mark that is not broken, and of every other rule
   pub companion-none : (rule : Rule) → (markBy rule .kind ≡ 1 → ⊥) ⊎ (namesCompanion rule ≡ false) → markBy rule .companion ≡ 0
   unfolding namesCompanion ruleBreak
@@ -174,6 +210,9 @@ module _ (judged : Bool) (places texts : List ℕ) (t u : Table) where
       alone-so (AllGiven file from to) e = by-alone judged _
       alone-so (NoneGiven file from to) e = by-alone judged _
       alone-so (InOrder file first second) e = by-alone judged _
+      alone-so (TreeLevels file level) e = by-alone judged _
+      alone-so (TreeParent file parent level id) e = absurd (true≢false e)
       alone-so (TargetIn file field when other id) e = by-alone judged _
       alone-so (ParentIs file parent level id other otherID otherType value) e = absurd (true≢false e)
+      alone-so (LeafIn file field other id level) e = by-alone judged _
       alone-so (EachHas file field when other id) e = by-alone judged _

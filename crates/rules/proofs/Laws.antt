@@ -12,6 +12,8 @@ use Rattle.rule_cells.specs.Cells.{Table}
 use Rattle.rule_outline.specs.Outline.{hasRoom, withParents, heldIn, parentOf, parentRule, parentTypeRule}
 use Rattle.rule_outline.specs.declared.Outline.{Outline}
 use Rattle.rule_outline.proofs.Rules.{filled-parent-rule, filled-parent-type-rule}
+use Rattle.rule_tree.specs.Tree.{treeParentRule}
+use Rattle.rule_tree.proofs.Rules.{filled-tree-parents}
 use Rattle.rules.specs.Judge.{alone, ofOutline, parentBreak}
 use Rattle.rules.specs.declared.Break.{Break}
 
@@ -42,6 +44,12 @@ module _ (t : Table) (list held : List ℕ) (level id : ℕ) (found : Outline) w
     parent-type-judged u uid type word e =
         rw (few (t .records) list room)
         (ap ofOutline (e ∙ ap (λ h. parentTypeRule t level id (heldIn h) u uid type word) filled ∙ filled-parent-type-rule t level list room id u uid type word))
+
+    pub tree-parent-judged : (parent : ℕ) → found ≡ treeParentRule t id parent (heldIn held) → ofOutline found ≡ parentBreak t (treeParentRule t id parent (parentOf t level))
+    unfolding parentBreak
+    tree-parent-judged parent e =
+        rw (few (t .records) list room)
+        (ap ofOutline (e ∙ ap (λ h. treeParentRule t id parent (heldIn h)) filled ∙ filled-tree-parents t level list room id parent))
 
 -- ---- Without room
 pub parent-left : (t : Table) (list : List ℕ) (found : Outline) → length list ≡ 4096 → hasRoom (t .records) list ≡ false → alone 0 ≡ parentBreak t found

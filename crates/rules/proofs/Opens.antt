@@ -4,7 +4,7 @@ use mathlib.Core.Bool.{Bool, true}
 use Rattle.rule_key.proofs.Opens.{open-keys}
 use Rattle.rule_hours.proofs.Opens.{open-hours}
 use Rattle.rule_dates.proofs.Opens.{open-dates}
-use Rattle.rule_outline.proofs.Opens.{open-outlines}
+use Rattle.rule_tree.proofs.Opens.{open-trees}
 use Rattle.rule_shape.proofs.Opens.{open-shapes}
 use Rattle.rule_when.specs.When.{isValue, holdsWhen}
 use Rattle.rule_value.specs.Value.{isOneOf, agrees, breaksField, fieldRule}
@@ -12,5 +12,5 @@ use Rattle.rule_target.specs.Target.{targetOf, breaksTarget, targetRule}
 use Rattle.rules.specs.Judge.{parentBreak, ruleBreak, isJudged, markOf}
 
 unfoldable pub open-rules : Bool
-unfolding open-keys open-hours open-dates open-outlines open-shapes isValue holdsWhen isOneOf agrees breaksField fieldRule targetOf breaksTarget targetRule parentBreak ruleBreak isJudged markOf
+unfolding open-keys open-hours open-dates open-trees open-shapes isValue holdsWhen isOneOf agrees breaksField fieldRule targetOf breaksTarget targetRule parentBreak ruleBreak isJudged markOf
 open-rules = true

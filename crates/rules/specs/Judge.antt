@@ -16,8 +16,9 @@ use Rattle.rule_dates.specs.Dates.{inOrder}
 use Rattle.rule_hours.specs.Hours.{noneBelow, someAbove, together, allGiven, noneGiven}
 use Rattle.rule_outline.specs.Outline.{levelRule, parentRule, parentTypeRule, parentOf}
 use Rattle.rule_outline.specs.declared.Outline.{Outline}
+use Rattle.rule_tree.specs.Tree.{treeLevelRule, treeParentRule, leafRule}
 use Rattle.rule_shape.specs.declared.Rule.{Rule}
-use Rattle.rule_shape.specs.declared.Rule.the-variants.{KeyOf, OneOf, NullUnless, GivenIf, GivenUnless, NoneBelow, SomeAbove, Together, LevelRun, ParentGiven, AllGiven, NoneGiven, InOrder, TargetIn, ParentIs, EachHas}
+use Rattle.rule_shape.specs.declared.Rule.the-variants.{KeyOf, OneOf, NullUnless, GivenIf, GivenUnless, NoneBelow, SomeAbove, Together, LevelRun, ParentGiven, AllGiven, NoneGiven, InOrder, TreeLevels, TreeParent, TargetIn, ParentIs, LeafIn, EachHas}
 use Rattle.rules.specs.declared.Break.{Break}
 use Rattle.mark_numbers.specs.declared.Mark.{Mark}
 use Rattle.mark_numbers.specs.Marks.{holds, notJudged}
@@ -58,12 +59,17 @@ ruleBreak places texts (ParentGiven file parent level id) t u = parentBreak t (p
 ruleBreak places texts (AllGiven file from to) t u = alone (allGiven (t .cells) (t .width) (t .records) from to)
 ruleBreak places texts (NoneGiven file from to) t u = alone (noneGiven (t .cells) (t .width) (t .records) from to)
 ruleBreak places texts (InOrder file first second) t u = alone (inOrder t first second)
--- 48–64: "Broken at a record exactly if no target record has that ID."; 67, 73 and 74 ask the same
+-- order 9, the Levels and the parents of a tree
+ruleBreak places texts (TreeLevels file level) t u = alone (treeLevelRule t level)
+ruleBreak places texts (TreeParent file parent level id) t u = parentBreak t (treeParentRule t id parent (parentOf t level))
+-- document 01, 48–64: "Broken at a record exactly if no target record has that ID."; 67, 73 and 74 ask the same
 ruleBreak places texts (TargetIn file field when other id) t u = alone (targetRule t field when u id places texts)
 ruleBreak places texts (EachHas file field when other id) t u = alone (targetRule t field when u id places texts)
 -- 80: "some task with the parent's TaskID is SUMMARY"
 ruleBreak places texts (ParentIs file parent level id other otherID otherType value) t u =
     parentBreak t (parentTypeRule t level id (parentOf t level) u otherID otherType (valueTextAt places texts value))
+-- document 02, order 9: "broken if a matching element has a child"
+ruleBreak places texts (LeafIn file field other id level) t u = alone (leafRule t field u id level)
 
 -- ---- The mark of a rule, from the kinds of the marks of its two files
 unfoldable pub isJudged : ℕ → ℕ → Bool

@@ -5,6 +5,7 @@ ghost use Rattle.rule_key.specs.Key.{keyRule};
 ghost use Rattle.rule_outline.specs.Outline.{parentRule, parentTypeRule, parentOf, heldIn};
 ghost use Rattle.rule_shape.specs.Rule.{ruleFrom};
 ghost use Rattle.rule_target.specs.Target.{targetRule};
+ghost use Rattle.rule_tree.specs.Tree.{treeParentRule, leafRule};
 ghost use Rattle.rules.specs.Judge.{alone, ofKey, ofOutline, parentBreak, ruleBreak, isJudged, markOf};
 use mark_numbers::Mark;
 use ordered_key::key_rule_in;
@@ -29,6 +30,9 @@ use rule_shape::Rule;
 use rule_shape::rule_at;
 use rule_target::Target;
 use rule_target::target_rule;
+use rule_tree::leaf_rule;
+use rule_tree::tree_level_rule;
+use rule_tree::tree_parent_rule;
 use rule_value::FieldRule;
 use rule_value::field_rule;
 use rule_when::When;
@@ -105,6 +109,56 @@ fn parent_break(
         return of_outline(parent_rule(s, cells, width, records, level, id, parent, &parents));
     }
     alone(0)
+}
+
+// The rule on the parents of a tree, with the parents kept in the same way.
+fn tree_parent_break(
+    s: &[u8],
+    cells: &[u32],
+    width: usize,
+    records: usize,
+    level: usize,
+    id: usize,
+    parent: usize,
+) -> Break
+    ensures { λ r. ⌜ r ≡ parentBreak (table (now (s .entry)) (now (cells .entry)) width records) (treeParentRule (table (now (s .entry)) (now (cells .entry)) width records) id parent (parentOf (table (now (s .entry)) (now (cells .entry)) width records) level)) ⌝ }
+{
+    let mut parents = [0u32; 4096];
+    if fill_parents(s, cells, width, records, level, &mut parents) {
+        return of_outline(tree_parent_rule(s, cells, width, records, id, parent, &parents));
+    }
+    alone(0)
+}
+
+// The rule on leaves: a record that names an element of `u` which has a child.
+fn leaf_break(
+    s: &[u8],
+    cells: &[u32],
+    width: usize,
+    records: usize,
+    field: usize,
+    u: &[u8],
+    u_cells: &[u32],
+    u_width: usize,
+    u_records: usize,
+    id: usize,
+    level: usize,
+) -> Break
+    ensures { λ r. ⌜ r ≡ alone (leafRule (table (now (s .entry)) (now (cells .entry)) width records) field (table (now (u .entry)) (now («u_cells» .entry)) «u_width» «u_records») id level) ⌝ }
+{
+    alone(leaf_rule(
+        s,
+        cells,
+        width,
+        records,
+        field,
+        u,
+        u_cells,
+        u_width,
+        u_records,
+        id,
+        level,
+    ))
 }
 
 // Mark 80's rule over parents that were found, through an order of the tasks.
@@ -332,6 +386,13 @@ pub fn rule_break(
             first,
             second,
         )),
+        Rule::TreeLevels { level, .. } => alone(tree_level_rule(s, cells, width, records, level)),
+        Rule::TreeParent {
+            parent,
+            level,
+            id,
+            ..
+        } => tree_parent_break(s, cells, width, records, level, id, parent),
         Rule::TargetIn {
             field,
             when,
@@ -377,6 +438,24 @@ pub fn rule_break(
                 word,
             )
         }
+        Rule::LeafIn {
+            field,
+            id,
+            level,
+            ..
+        } => leaf_break(
+            s,
+            cells,
+            width,
+            records,
+            field,
+            u,
+            u_cells,
+            u_width,
+            u_records,
+            id,
+            level,
+        ),
         Rule::EachHas {
             field,
             when,

@@ -74,7 +74,7 @@ const FILE_FORMS: [u32; 40] = [
     OPTIONAL,
 ];
 
-fn file_forms() -> [u32; 40]
+pub fn file_forms() -> [u32; 40]
     ensures { λ r. ⌜ r ≡ fileForms ⌝ }
 {
     FILE_FORMS

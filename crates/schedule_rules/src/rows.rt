@@ -21,11 +21,11 @@ const LEVEL_RUN: u32 = 8;
 
 const PARENT_GIVEN: u32 = 9;
 
-const TARGET_IN: u32 = 13;
+const TARGET_IN: u32 = 15;
 
-const PARENT_IS: u32 = 14;
+const PARENT_IS: u32 = 16;
 
-const EACH_HAS: u32 = 15;
+const EACH_HAS: u32 = 18;
 
 // Nine numbers a mark: the shape, the file whose records are judged, the file that is looked into,
 // the deciding field, and five that the shape reads.

@@ -4,7 +4,6 @@ use Prim.Native.Nat.{ℕ, _+_, _-_, _≤_, _<_}
 use mathlib.Core.Path.{_≡_, refl, sym, ap, _∙_}
 use mathlib.Core.Bool.{Bool, true, false, cond}
 use mathlib.Core.List.{List, [], _∷_, _++_, map, flatten, append-assoc, append-nil}
-use native.Mathlib.Nat.{zero-add}
 use native.Mathlib.Numerals.{add-one}
 use native.Mathlib.Omega.{arith}
 use borrow.Author.Tests.{lt-ltb, le-ltb, eq-eqb, ne-eqb, leb-false}
@@ -14,40 +13,14 @@ use lib.Dec.{leb}
 use Rattle.parts.specs.Part.{partOf}
 use Rattle.parts.proofs.Laws.{part-is}
 use Rattle.table_rows.specs.Ascii.{codes}
-use Rattle.table_rows.specs.Rows.{Field, fieldAt, nameAt, nameStart, nameEnd, rowsAfter, firstField, fieldCount}
-use Rattle.table_rows.proofs.Laws.{fields-at}
-use Rattle.table_fields.specs.Fields.{fieldsOf}
-use Rattle.table_fields.specs.Flat.{fieldRows, fieldNames}
-use Rattle.table_fields.proofs.Facts.{count-back, file-fields}
-use Rattle.file_names.specs.Names.{fileName, tableName}
 use Rattle.cut_value.specs.Cut.{cutLength}
 use Rattle.cut_value.proofs.Laws.{at-most-80}
 use Rattle.output.specs.Decimal.{decimal}
 use Rattle.output.specs.Output.{Output, put}
 use Rattle.output.proofs.Puts.{put-then}
+use Rattle.gate_lists.specs.declared.Which.{Which}
 use Rattle.wording.specs.declared.Slots.{Slots}
-use Rattle.wording.specs.Wording.{noField, fieldName, valueText, companionText, spotText, slotText, filled}
-
--- ---- the name of a field, from the rows of its file
-module _ (file field : ℕ) (o : Output) where
-  pub field-none : {rows : List ℕ} {n : ℕ} → rows ≡ fieldRows → n ≡ fieldCount rows file → n ≤ field → o ≡ put o (fieldName file field)
-  unfolding fieldName put
-  field-none e f h =
-      let past : length (fieldsOf file) ≤ field = omega (arith, f ∙ ap (λ rows. fieldCount rows file) e ∙ count-back file) in
-      ap (λ (f : Field). put o (f .name)) (sym (List·getD-eq-default (fieldsOf file) noField past))
-
-  field-name : field < fieldCount fieldRows file → nameAt (rowsAfter fieldRows (firstField fieldRows file)) fieldNames field ≡ fieldName file field
-  unfolding fieldName fieldAt
-  field-name l =
-      let own = rowsAfter fieldRows (firstField fieldRows file) in
-      ap (λ k. nameAt own fieldNames k) (sym (zero-add field))
-      ∙ ap (λ (f : Field). f .name) (sym (fields-at own fieldNames noField (fieldCount fieldRows file) 0 field l) ∙ ap (λ l. getD l field noField) (file-fields file))
-
-  pub field-put : {rows own names r : List ℕ} {n first a b : ℕ} → rows ≡ fieldRows → n ≡ fieldCount rows file → field < n → first ≡ firstField rows file → own ≡ rowsAfter rows first → names ≡ fieldNames → a ≡ nameStart own field → b ≡ nameEnd own field → r ≡ partOf names a b → {p : Output} → p ≡ put o r → p ≡ put o (fieldName file field)
-  unfolding nameAt
-  field-put e f l g q i j k m h =
-      let few : field < fieldCount fieldRows file = omega (arith, f ∙ ap (λ rows. fieldCount rows file) e) in
-      h ∙ ap (put o) (m ∙ rw (j, k, i, q, g, e) (field-name few))
+use Rattle.wording.specs.Wording.{valueText, companionText, spotText, slotText, filled}
 
 -- ---- a value: none, whole, cut
 cut-within : (value : List ℕ) → cutLength value ≤ length value
@@ -95,23 +68,23 @@ spot-put line column o e f g h =
     put-then o _ (decimal column) (put-then o _ (codes ", column ") (put-then o (codes "line ") (decimal line) e f) g) h
 
 -- ---- a sign, by which it is
-module _ (slots : Slots) (value : List ℕ) (o : Output) {p : Output} where
-  pub sign-put : (sign slot : ℕ) {text : List ℕ} → slotText slots value slot ≡ text → sign ≡ slot → p ≡ put o text → p ≡ put o (slotText slots value sign)
-  sign-put sign slot t e h = h ∙ ap (put o) (sym t ∙ ap (slotText slots value) (sym e))
+module _ (which : Which) (slots : Slots) (value : List ℕ) (o : Output) {p : Output} where
+  pub sign-put : (sign slot : ℕ) {text : List ℕ} → slotText which slots value slot ≡ text → sign ≡ slot → p ≡ put o text → p ≡ put o (slotText which slots value sign)
+  sign-put sign slot t e h = h ∙ ap (put o) (sym t ∙ ap (slotText which slots value) (sym e))
 
-  pub other-put : (sign : ℕ) → (sign ≡ 64 → ⊥) → (sign ≡ 33 → ⊥) → (sign ≡ 35 → ⊥) → (sign ≡ 36 → ⊥) → (sign ≡ 37 → ⊥) → (sign ≡ 38 → ⊥) → (sign ≡ 94 → ⊥) → (sign ≡ 126 → ⊥) → p ≡ put o (sign ∷ []) → p ≡ put o (slotText slots value sign)
+  pub other-put : (sign : ℕ) → (sign ≡ 64 → ⊥) → (sign ≡ 33 → ⊥) → (sign ≡ 35 → ⊥) → (sign ≡ 36 → ⊥) → (sign ≡ 37 → ⊥) → (sign ≡ 38 → ⊥) → (sign ≡ 94 → ⊥) → (sign ≡ 126 → ⊥) → p ≡ put o (sign ∷ []) → p ≡ put o (slotText which slots value sign)
   unfolding slotText
   other-put sign a b c d e f g i h =
       rw (ne-eqb sign 64 a, ne-eqb sign 33 b, ne-eqb sign 35 c, ne-eqb sign 36 d, ne-eqb sign 37 e, ne-eqb sign 38 f, ne-eqb sign 94 g, ne-eqb sign 126 i) h
 
 -- ---- a sentence as a loop goes over its signs: what is left of it, put behind what was
-module _ (slots : Slots) (value sentence : List ℕ) (i : ℕ) (o : Output) where
-  pub filled-next : i < length sentence → {p q : Output} → p ≡ put o (slotText slots value (getD sentence i 0)) → put o (filled slots value (drop i sentence)) ≡ q → put p (filled slots value (drop (i + 1) sentence)) ≡ q
+module _ (which : Which) (slots : Slots) (value sentence : List ℕ) (i : ℕ) (o : Output) where
+  pub filled-next : i < length sentence → {p q : Output} → p ≡ put o (slotText which slots value (getD sentence i 0)) → put o (filled which slots value (drop i sentence)) ≡ q → put p (filled which slots value (drop (i + 1) sentence)) ≡ q
   unfolding filled flatten
   filled-next l e h =
-      put-then o (slotText slots value (getD sentence i 0)) (filled slots value (drop (i + 1) sentence)) e refl
+      put-then o (slotText which slots value (getD sentence i 0)) (filled which slots value (drop (i + 1) sentence)) e refl
       ∙ rw (add-one i) (rw (drop-cons sentence i 0 l) at h)
 
-  pub filled-end : length sentence ≤ i → {q : Output} → put o (filled slots value (drop i sentence)) ≡ q → o ≡ q
+  pub filled-end : length sentence ≤ i → {q : Output} → put o (filled which slots value (drop i sentence)) ≡ q → o ≡ q
   unfolding filled flatten put
   filled-end l h = rw (drop-of-length-le sentence {i = i} l) at h

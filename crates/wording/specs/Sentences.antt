@@ -4,8 +4,10 @@ use Prim.Native.Nat.{ℕ, _+_, _-_}
 use mathlib.Core.Bool.{cond}
 use mathlib.Core.List.{List, [], _∷_}
 use lib.ListN.{getD}
-use lib.Dec.{ltb}
+use lib.Dec.{ltb, eqb}
 use Rattle.table_rows.specs.Ascii.{codes}
+use Rattle.gate_lists.specs.declared.Which.{Which}
+use Rattle.gate_lists.specs.declared.Which.the-variants.{Schedule, Baseline, Contract}
 
 unfoldable pub sentences : List (List ℕ)
 sentences =
@@ -71,6 +73,11 @@ sentences =
     ∷ codes "@ record #: $ % does not fit. The first record has $ 1; each later one has at least 1 and at most one more than the record before."
     ∷ codes "@ record #: $ is %, and the parent by Level is &. A record of Level 1 has no $; any other has the TaskID of its parent, the nearest earlier record of lower Level."
     ∷ codes "@ record #: no SUMMARY task has the TaskID of the parent by Level, &; $ is %. Make the parent's task one of type SUMMARY."
+    -- 81 to 84 of the baseline profile
+    ∷ codes "@ record #: $ is not given. A baseline gives each record all of BaselineDuration, BaselineStartDate, BaselineFinishDate, StartVarianceDuration and FinishVarianceDuration."
+    ∷ codes "@ record #: $ % is given, but a baseline has no progress in it. Take ActualStartDate and ActualFinishDate out."
+    ∷ codes "@ record #: $ % is after BaselineFinishDate. Correct one of the two; they may be the same day."
+    ∷ codes "@ record #: $ % is given, but a baseline has no progress in it; 0 counts as given too. Take Actual_ToDate_Dollars and Actual_ToDate_Hours out."
     -- a file's own mark, by its kind: 10 to 22, of which 16 is never given
     ∷ codes "! ~: the text is not UTF-8 here. Save the file in UTF-8."
     ∷ codes "! ~: no JSON text goes on like this. Look for a comma, quote or bracket too many or too few, a comment, a byte order mark, or a file that was cut off."
@@ -97,26 +104,56 @@ sentences =
     ∷ codes "! does not hold, so that 1 mark which reads it was not judged. Mend that file first."
     ∷ []
 
--- a sentence by its number; none for a number over 81
+-- those of the contract side's gate alone, in a list of their own
+unfoldable pub contractSentences : List (List ℕ)
+contractSentences =
+    -- its marks 4 to 18, one rule each
+    codes "@ record #: $ % is that of & too; capital and small letters count as the same. Give each subcontractor an ID of its own."
+    ∷ codes "@ record #: $ % is that of & too; capital and small letters count as the same. Give each WBS element an ID of its own."
+    ∷ codes "@ record #: $ % is that of & too; capital and small letters count as the same. Give each OBS element an ID of its own."
+    ∷ codes "@ record #: $ % is that of & too; capital and small letters count as the same. Give each control account an ID of its own."
+    ∷ codes "@ record #: $ % is not the ID of any record in ^. Add that subcontractor, or name one that is there."
+    ∷ codes "@ record #: $ % is not the ID of any record in ^. Add that element, or name the parent that is there."
+    ∷ codes "@ record #: $ % is not the ID of any record in ^. Add that element, or name the parent that is there."
+    ∷ codes "@ record #: $ % is not the ID of any record in ^. Add that element, or name one that is there."
+    ∷ codes "@ record #: $ % is not the ID of any record in ^. Add that element, or name one that is there."
+    ∷ codes "@ record #: $ % does not fit. The first record has $ 1; each later one has at least 2 and at most one more than the record before."
+    ∷ codes "@ record #: $ % does not fit. The first record has $ 1; each later one has at least 2 and at most one more than the record before."
+    ∷ codes "@ record #: $ is %, and the parent by Level is &. The first record has no $; any other has the ID of its parent, the nearest earlier record of lower Level."
+    ∷ codes "@ record #: $ is %, and the parent by Level is &. The first record has no $; any other has the ID of its parent, the nearest earlier record of lower Level."
+    ∷ codes "@ record #: $ % is the ID of an element in WBS that has others below it. Name an element with none below it."
+    ∷ codes "@ record #: $ % is the ID of an element in OBS that has others below it. Name an element with none below it."
+    -- kind 12 of a file's own mark; the other kinds have the sentences above
+    ∷ codes "! ~: the value that starts here does not belong here. Each file of this set is an array of objects."
+    ∷ []
+
+-- a sentence by its number: up to 85 among the first, from 100 on among those of the contract side; else none
 unfoldable pub sentenceAt : ℕ → List ℕ
-sentenceAt n = getD sentences n []
-
--- the number of a rule's sentence by its mark, and of a file's own mark's by its kind
-abbrev pub ofRule : ℕ → ℕ
-ofRule mark = mark - 20
-
-unfoldable pub ofKind : ℕ → ℕ
-ofKind kind = cond (ltb kind 30) (kind + 51) (kind + 44)
-
-abbrev pub notJudged : ℕ
-notJudged = 79
-
-abbrev pub keepsMany : ℕ
-keepsMany = 80
-
-abbrev pub keepsOne : ℕ
-keepsOne = 81
+sentenceAt n = cond (ltb n 100) (getD sentences n []) (getD contractSentences (n - 100) [])
 
 -- where nothing is to be said
 abbrev pub nothing : ℕ
-nothing = 82
+nothing = 86
+
+-- the number of a rule's sentence by its mark, and of a file's own mark's by its kind
+unfoldable pub ofRule : Which → ℕ → ℕ
+ofRule Schedule mark = mark - 20
+ofRule Baseline mark = mark - 20
+ofRule Contract mark = cond (ltb mark 19) (mark + 96) nothing
+
+unfoldable pub kindAmong : ℕ → ℕ
+kindAmong kind = cond (ltb kind 30) (kind + 55) (kind + 48)
+
+unfoldable pub ofKind : Which → ℕ → ℕ
+ofKind Schedule kind = kindAmong kind
+ofKind Baseline kind = kindAmong kind
+ofKind Contract kind = cond (eqb kind 12) 115 (kindAmong kind)
+
+abbrev pub notJudged : ℕ
+notJudged = 83
+
+abbrev pub keepsMany : ℕ
+keepsMany = 84
+
+abbrev pub keepsOne : ℕ
+keepsOne = 85

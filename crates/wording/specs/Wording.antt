@@ -1,27 +1,19 @@
--- What stands in the slots of a sentence. A slot is one sign, which no sentence uses otherwise:
+-- What stands in the slots of a sentence about a gate. A slot is one sign, which no sentence uses otherwise:
 --   @ the table's name              ! the file's name
 --   # the record's number           $ the name of the deciding field
 --   % its value                     & its companion
 --   ^ the name of the table searched    ~ the place in the file, as line and column
 use Prim.Native.Nat.{ℕ}
-use mathlib.Core.Bool.{Bool, false, cond}
+use mathlib.Core.Bool.{cond}
 use mathlib.Core.List.{List, [], _∷_, _++_, map, flatten}
-use lib.ListN.{length, getD, take}
+use lib.ListN.{length, take}
 use lib.Dec.{ltb, eqb}
 use Rattle.output.specs.Decimal.{decimal}
 use Rattle.cut_value.specs.Cut.{cutLength}
 use Rattle.table_rows.specs.Ascii.{codes}
-use Rattle.table_rows.specs.Rows.{Field}
-use Rattle.table_fields.specs.Fields.{fieldsOf}
-use Rattle.file_names.specs.Names.{fileName, tableName}
+use Rattle.gate_lists.specs.declared.Which.{Which}
+use Rattle.gate_names.specs.Names.{fileNameOf, tableNameOf, fieldNameOf}
 use Rattle.wording.specs.declared.Slots.{Slots}
-
--- the name of a file's field, counted from 0; none where it has no such field
-abbrev pub noField : Field
-noField = record { name = []; type = 0; nullable = false }
-
-unfoldable pub fieldName : ℕ → ℕ → List ℕ
-fieldName file field = getD (fieldsOf file) field noField .name
 
 -- a value as it stands in the bundle, cut where it is long; `null` for none
 unfoldable pub valueText : List ℕ → List ℕ
@@ -35,18 +27,18 @@ unfoldable pub spotText : ℕ → ℕ → List ℕ
 spotText line column = codes "line " ++ decimal line ++ codes ", column " ++ decimal column
 
 -- what a sign of a sentence gives: in a slot what stands there, else itself
-unfoldable pub slotText : Slots → List ℕ → ℕ → List ℕ
-slotText slots value sign =
-    cond (eqb sign 64) (tableName (slots .file))
-    (cond (eqb sign 33) (fileName (slots .file))
+unfoldable pub slotText : Which → Slots → List ℕ → ℕ → List ℕ
+slotText which slots value sign =
+    cond (eqb sign 64) (tableNameOf which (slots .file))
+    (cond (eqb sign 33) (fileNameOf which (slots .file))
     (cond (eqb sign 35) (decimal (slots .«record»))
-    (cond (eqb sign 36) (fieldName (slots .file) (slots .field))
+    (cond (eqb sign 36) (fieldNameOf which (slots .file) (slots .field))
     (cond (eqb sign 37) (valueText value)
     (cond (eqb sign 38) (companionText (slots .companion))
-    (cond (eqb sign 94) (tableName (slots .searched))
+    (cond (eqb sign 94) (tableNameOf which (slots .searched))
     (cond (eqb sign 126) (spotText (slots .line) (slots .column))
     (sign ∷ []))))))))
 
 -- a sentence with its slots filled
-unfoldable pub filled : Slots → List ℕ → List ℕ → List ℕ
-filled slots value sentence = flatten (map (slotText slots value) sentence)
+unfoldable pub filled : Which → Slots → List ℕ → List ℕ → List ℕ
+filled which slots value sentence = flatten (map (slotText which slots value) sentence)

@@ -1,23 +1,23 @@
 // The sentence that a scheduler reads beside a mark: which one, and what stands in its slots.
 ghost use mathlib.Core.Path.{_≡_};
+ghost use Prim.Native.Nat.{_+_, _-_};
 ghost use Rattle.output.specs.Output.{outputAt, put};
-ghost use Rattle.wording.specs.Sentences.{sentenceAt, ofRule, ofKind};
-ghost use Rattle.wording.specs.Wording.{fieldName, valueText, companionText, spotText, slotText, filled};
-ghost use Rattle.wording.specs.Flat.{allSentences, sentenceStart};
+ghost use mathlib.Core.Bool.{cond};
+ghost use mathlib.Core.List.{[]};
+ghost use lib.ListN.{getD};
+ghost use lib.Dec.{ltb, eqb};
+ghost use Rattle.wording.specs.Sentences.{sentences, contractSentences, sentenceAt, ofRule, kindAmong, ofKind};
+ghost use Rattle.wording.specs.Wording.{valueText, companionText, spotText, slotText, filled};
+ghost use Rattle.wording.specs.Flat.{allSentences, sentenceStart, allContract, contractStart};
 use cut_value::cut_length;
-use file_names::put_file_name;
-use file_names::put_table_name;
+use gate_lists::Which;
+use gate_names::put_field_of;
+use gate_names::put_file_of;
+use gate_names::put_table_of;
 use output::put_byte;
 use output::put_number;
 use output::put_text;
 use parts::part;
-use table_fields::field_names;
-use table_fields::field_rows;
-use table_rows::field_count;
-use table_rows::first_field;
-use table_rows::name_end;
-use table_rows::name_start;
-use table_rows::rows_after;
 
 mod words;
 
@@ -37,25 +37,51 @@ pub struct Slots {
     pub column: usize,
 }
 
-fn sentences() -> [u8; 8852]
+fn sentences() -> [u8; 9368]
     ensures { λ r. ⌜ r ≡ allSentences ⌝ }
 {
     words::SENTENCES
 }
 
-// Where a sentence starts among them; over 81, their length.
+// Where a sentence starts among them; over 85, their length.
 fn sentence_start(n: usize) -> usize
     ensures { λ r. ⌜ r ≡ sentenceStart n ⌝ }
 {
-    if n < 82 {
+    if n < 86 {
         return words::STARTS[n];
     }
-    words::STARTS[82]
+    words::STARTS[86]
 }
 
-// The number of the sentence of a rule, by its mark.
-pub fn rule_sentence(mark: usize) -> usize
-    ensures { λ r. ⌜ r ≡ ofRule mark ⌝ }
+// Those of the contract side.
+fn contract_sentences() -> [u8; 1853]
+    ensures { λ r. ⌜ r ≡ allContract ⌝ }
+{
+    words::CONTRACT_SENTENCES
+}
+
+fn contract_start(n: usize) -> usize
+    ensures { λ r. ⌜ r ≡ contractStart n ⌝ }
+{
+    if n < 16 {
+        return words::CONTRACT_STARTS[n];
+    }
+    words::CONTRACT_STARTS[16]
+}
+
+// The number of the sentence of a rule of the gate, by its mark.
+pub fn rule_sentence(which: Which, mark: usize) -> usize
+    ensures { λ r. ⌜ r ≡ ofRule which mark ⌝ }
+{
+    match which {
+        Which::Schedule => less_20(mark),
+        Which::Baseline => less_20(mark),
+        Which::Contract => contract_rule(mark),
+    }
+}
+
+fn less_20(mark: usize) -> usize
+    ensures { λ r. ⌜ r ≡ mark - 20 ⌝ }
 {
     if mark < 20 {
         return 0;
@@ -63,34 +89,45 @@ pub fn rule_sentence(mark: usize) -> usize
     mark - 20
 }
 
+fn contract_rule(mark: usize) -> usize
+    ensures { λ r. ⌜ r ≡ cond (ltb mark 19) (mark + 96) 86 ⌝ }
+{
+    if mark < 19 {
+        return mark + 96;
+    }
+    86
+}
+
 // That of a file's own mark, by its kind.
-pub fn kind_sentence(kind: u32) -> usize
-    ensures { λ r. ⌜ r ≡ ofKind kind ⌝ }
+pub fn kind_sentence(which: Which, kind: u32) -> usize
+    ensures { λ r. ⌜ r ≡ ofKind which kind ⌝ }
+{
+    match which {
+        Which::Schedule => kind_among(kind),
+        Which::Baseline => kind_among(kind),
+        Which::Contract => contract_kind(kind),
+    }
+}
+
+fn kind_among(kind: u32) -> usize
+    ensures { λ r. ⌜ r ≡ kindAmong kind ⌝ }
 {
     if kind < 30 {
-        return kind as usize + 51;
+        return kind as usize + 55;
     }
-    kind as usize + 44
+    kind as usize + 48
 }
 
-// The name of a file's field; nothing where it has no such field. All functions from here on put what
-// they make into an output as `output` does.
-fn put_field_name(out: &mut [u8], at: usize, file: usize, field: usize) -> usize
-    ensures { λ r. ⌜ outputAt (now (out .exit)) r ≡ put (outputAt (now (out .entry)) at) (fieldName file field) ⌝ }
+fn contract_kind(kind: u32) -> usize
+    ensures { λ r. ⌜ r ≡ cond (eqb kind 12) 115 (kindAmong kind) ⌝ }
 {
-    let rows = field_rows();
-    if field_count(&rows, file) <= field {
-        return at;
+    if kind == 12 {
+        return 115;
     }
-    let own = rows_after(&rows, first_field(&rows, file));
-    let names = field_names();
-    put_text(
-        out,
-        at,
-        part(&names, name_start(own, field), name_end(own, field)),
-    )
+    kind_among(kind)
 }
 
+// A value; all functions from here on put what they make into an output as `output` does.
 fn put_value(out: &mut [u8], at: usize, value: &[u8]) -> usize
     ensures { λ r. ⌜ outputAt (now (out .exit)) r ≡ put (outputAt (now (out .entry)) at) (valueText (now (value .entry))) ⌝ }
 {
@@ -125,20 +162,20 @@ fn put_spot(out: &mut [u8], at: usize, line: usize, column: usize) -> usize
 }
 
 // One sign of a sentence.
-fn put_sign(out: &mut [u8], at: usize, sign: u8, slots: Slots, value: &[u8]) -> usize
-    ensures { λ r. ⌜ outputAt (now (out .exit)) r ≡ put (outputAt (now (out .entry)) at) (slotText slots (now (value .entry)) sign) ⌝ }
+fn put_sign(which: Which, out: &mut [u8], at: usize, sign: u8, slots: Slots, value: &[u8]) -> usize
+    ensures { λ r. ⌜ outputAt (now (out .exit)) r ≡ put (outputAt (now (out .entry)) at) (slotText which slots (now (value .entry)) sign) ⌝ }
 {
     if sign == b'@' {
-        return put_table_name(out, at, slots.file);
+        return put_table_of(which, out, at, slots.file);
     }
     if sign == b'!' {
-        return put_file_name(out, at, slots.file);
+        return put_file_of(which, out, at, slots.file);
     }
     if sign == b'#' {
         return put_number(out, at, slots.record);
     }
     if sign == b'$' {
-        return put_field_name(out, at, slots.file, slots.field);
+        return put_field_of(which, out, at, slots.file, slots.field);
     }
     if sign == b'%' {
         return put_value(out, at, value);
@@ -147,7 +184,7 @@ fn put_sign(out: &mut [u8], at: usize, sign: u8, slots: Slots, value: &[u8]) -> 
         return put_companion(out, at, slots.companion);
     }
     if sign == b'^' {
-        return put_table_name(out, at, slots.searched);
+        return put_table_of(which, out, at, slots.searched);
     }
     if sign == b'~' {
         return put_spot(out, at, slots.line, slots.column);
@@ -155,26 +192,76 @@ fn put_sign(out: &mut [u8], at: usize, sign: u8, slots: Slots, value: &[u8]) -> 
     put_byte(out, at, sign)
 }
 
-fn put_filled(out: &mut [u8], at: usize, sentence: &[u8], slots: Slots, value: &[u8]) -> usize
-    ensures { λ r. ⌜ outputAt (now (out .exit)) r ≡ put (outputAt (now (out .entry)) at) (filled slots (now (value .entry)) (now (sentence .entry))) ⌝ }
+fn put_filled(
+    which: Which,
+    out: &mut [u8],
+    at: usize,
+    sentence: &[u8],
+    slots: Slots,
+    value: &[u8],
+) -> usize
+    ensures { λ r. ⌜ outputAt (now (out .exit)) r ≡ put (outputAt (now (out .entry)) at) (filled which slots (now (value .entry)) (now (sentence .entry))) ⌝ }
 {
     let mut end = at;
     let mut i = 0;
     while i < sentence.len() {
-        end = put_sign(out, end, sentence[i], slots, value);
+        end = put_sign(which, out, end, sentence[i], slots, value);
         i += 1;
     }
     end
 }
 
-// A sentence by its number, with its slots filled; nothing for a number that has none.
-pub fn put_sentence(out: &mut [u8], at: usize, n: usize, slots: Slots, value: &[u8]) -> usize
-    ensures { λ r. ⌜ outputAt (now (out .exit)) r ≡ put (outputAt (now (out .entry)) at) (filled slots (now (value .entry)) (sentenceAt n)) ⌝ }
+// One of the first list, with its slots filled for the gate; nothing for a number over 85.
+fn put_common(
+    which: Which,
+    out: &mut [u8],
+    at: usize,
+    n: usize,
+    slots: Slots,
+    value: &[u8],
+) -> usize
+    ensures { λ r. ⌜ outputAt (now (out .exit)) r ≡ put (outputAt (now (out .entry)) at) (filled which slots (now (value .entry)) (getD sentences n [])) ⌝ }
 {
-    if 81 < n {
+    if 85 < n {
         return at;
     }
     let sentences = sentences();
     let sentence = part(&sentences, sentence_start(n), sentence_start(n + 1));
-    put_filled(out, at, sentence, slots, value)
+    put_filled(which, out, at, sentence, slots, value)
+}
+
+// One of the contract side's; nothing for a number over 15.
+fn put_contract(
+    which: Which,
+    out: &mut [u8],
+    at: usize,
+    n: usize,
+    slots: Slots,
+    value: &[u8],
+) -> usize
+    ensures { λ r. ⌜ outputAt (now (out .exit)) r ≡ put (outputAt (now (out .entry)) at) (filled which slots (now (value .entry)) (getD contractSentences n [])) ⌝ }
+{
+    if 15 < n {
+        return at;
+    }
+    let sentences = contract_sentences();
+    let sentence = part(&sentences, contract_start(n), contract_start(n + 1));
+    put_filled(which, out, at, sentence, slots, value)
+}
+
+// A sentence by its number, with its slots filled for the gate; nothing for a number that has none.
+pub fn put_sentence(
+    which: Which,
+    out: &mut [u8],
+    at: usize,
+    n: usize,
+    slots: Slots,
+    value: &[u8],
+) -> usize
+    ensures { λ r. ⌜ outputAt (now (out .exit)) r ≡ put (outputAt (now (out .entry)) at) (filled which slots (now (value .entry)) (sentenceAt n)) ⌝ }
+{
+    if n < 100 {
+        return put_common(which, out, at, n, slots, value);
+    }
+    put_contract(which, out, at, n - 100, slots, value)
 }

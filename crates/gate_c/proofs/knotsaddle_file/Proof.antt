@@ -18,7 +18,7 @@ same-length-2 : tie.Need-same-length-2
 same-length-2 c = search needs
 
 returns : tie.Need-returns
-returns c = asked-ill _ _ _ _ (c .before .file-fault .ensures) (c .if1 .taken)
+returns c = asked-ill _ _ _ _ _ (c .before .file-fault .ensures) (c .if1 .taken)
 
 present-number-requires : tie.Need-present-number-requires
 present-number-requires c κs = search needs
@@ -31,7 +31,7 @@ length-at-requires c κs = search needs
 
 -- a question that is not refused came with lists of the right length
 fit : (c : tie.After-length-at) → (length (now (c .before .before .before .before .before .before .before .before .before .before .args .present)) ≡ 1) × (length (now (c .before .before .before .before .before .before .before .before .before .before .args .place)) ≡ 2)
-fit c = lists-fit _ _ _ _ (sym (c .before .before .before .before .file-fault .ensures) ∙ c .before .before .before .if1 .left)
+fit c = lists-fit _ _ _ _ _ (sym (c .before .before .before .before .file-fault .ensures) ∙ c .before .before .before .if1 .left)
 
 slice-write-present : tie.Need-slice-write-present
 slice-write-present c = omega (arith, fit c .0)
@@ -51,7 +51,7 @@ same-length-4 c = search needs
 returns-2 : tie.Need-returns-2
 returns-2 c =
     let tested = c .before .before .before in
-    asked-well _ _ _ _ (tested .before .file-fault .ensures) (tested .if1 .left) (c .before .before .present-number .ensures) (c .before .offset-at .ensures) (c .length-at .ensures)
+    asked-well _ _ _ _ _ (tested .before .file-fault .ensures) (tested .if1 .left) (c .before .before .present-number .ensures) (c .before .offset-at .ensures) (c .length-at .ensures)
 
 pub knotsaddle-file-spec : {M : Type 1} → statement M
 knotsaddle-file-spec =

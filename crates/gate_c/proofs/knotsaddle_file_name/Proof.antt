@@ -1,14 +1,20 @@
--- `gate_c::knotsaddle_file_name` meets its contract: what stands behind the slash of a path is the name.
+-- `gate_c::knotsaddle_file_name` meets its contract: what stands at the front of 36 bytes is the name.
 use borrow.Author.Needs.{needs}
-use Rattle.gate_c.proofs.Files.{name-read, front-of}
+use Rattle.gate_c.proofs.Files.{front-of, front-empty, file-unknown, file-named}
 use Rattle.gate_c.proofs.knotsaddle_file_name.Statement.{statement}
 use Rattle.gate_c.proofs.knotsaddle_file_name.Tie as tie
 
-slice-aggregate-put-path : tie.Need-slice-aggregate-put-path
-slice-aggregate-put-path c = search needs
+returns : tie.Need-returns
+returns c = front-empty _ (file-unknown _ _ (c .if1 .taken))
 
-put-path-requires : tie.Need-put-path-requires
-put-path-requires c κs = search needs
+which-of-requires : tie.Need-which-of-requires
+which-of-requires c κs = search needs
+
+slice-aggregate-put-file-of : tie.Need-slice-aggregate-put-file-of
+slice-aggregate-put-file-of c = search needs
+
+put-file-of-requires : tie.Need-put-file-of-requires
+put-file-of-requires c κs = search needs
 
 slice-aggregate-part : tie.Need-slice-aggregate-part
 slice-aggregate-part c = search needs
@@ -22,19 +28,19 @@ put-front-requires c κs = search needs
 same-length : tie.Need-same-length
 same-length c = search needs
 
-returns : tie.Need-returns
-returns c =
-    let path = c .before .before .before .before .before .before .before .put-path .ensures in
-    front-of _ (name-read _ (path .0) (path .1) (c .before .before .before .part .ensures)) (c .before .before .put-front .ensures)
+returns-2 : tie.Need-returns-2
+returns-2 c = front-of _ (file-named _ _ (c .before .before .before .before .before .before .before .before .before .before .if1 .left) (c .before .before .before .before .before .before .before .before .before .which-of .ensures) (c .before .before .before .before .before .before .before .put-file-of .ensures) (c .before .before .before .part .ensures)) (c .before .before .put-front .ensures)
 
 pub knotsaddle-file-name-spec : {M : Type 1} → statement M
 knotsaddle-file-name-spec =
     tie.close
     (tie.spec
-    slice-aggregate-put-path
-    put-path-requires
+    returns
+    which-of-requires
+    slice-aggregate-put-file-of
+    put-file-of-requires
     slice-aggregate-part
     part-requires
     put-front-requires
     same-length
-    returns)
+    returns-2)

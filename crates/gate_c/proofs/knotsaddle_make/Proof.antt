@@ -24,13 +24,16 @@ same-length-4 c = search needs
 returns : tie.Need-returns
 returns c =
     let a = c .before .before .before .before .before .before .before .before .before .before .before .before .before .before .args in
-    make-ill (now (a .bundle)) (a .file) (a .present) (now (a .new-bytes)) (marksIn (now (a .kinds)) (now (a .places)) (now (a .companions))) (now (a .size)) (now (a .work)) (c .before .call-fault .ensures) (now (a .out)) (c .if1 .taken)
+    make-ill (a .gate) (now (a .bundle)) (a .file) (a .present) (now (a .new-bytes)) (marksIn (now (a .kinds)) (now (a .places)) (now (a .companions))) (now (a .size)) (now (a .work)) (c .before .call-fault .ensures) (now (a .out)) (c .if1 .taken)
+
+which-of-requires : tie.Need-which-of-requires
+which-of-requires c κs = search needs
 
 make-lists-requires : tie.Need-make-lists-requires
 make-lists-requires c κs = search needs
 
 put-size-requires : tie.Need-put-size-requires
-put-size-requires c κs = size-fits _ _ _ (c .before .before .before .before .before .before .before .before .before .before .before .before .before .before .before .before .before .before .call-fault .ensures) (c .before .before .before .before .before .before .before .before .before .before .before .before .before .before .before .before .before .if1 .left)
+put-size-requires c κs = size-fits _ _ _ _ (c .before .before .before .before .before .before .before .before .before .before .before .before .before .before .before .before .before .before .before .call-fault .ensures) (c .before .before .before .before .before .before .before .before .before .before .before .before .before .before .before .before .before .before .if1 .left)
 
 same-length-5 : tie.Need-same-length-5
 same-length-5 c = search needs
@@ -52,9 +55,10 @@ same-length-10 c = search needs
 
 returns-2 : tie.Need-returns-2
 returns-2 c =
-    let tested = c .before .before .before .before .before .before .before .before .before .before .before .before .before .before .before .before .before .before .before .before in
+    let chosen = c .before .before .before .before .before .before .before .before .before .before .before .before .before .before .before .before .before .before .before .before in
+    let tested = chosen .before in
     let a = tested .before .before .before .before .before .before .before .before .before .before .before .before .before .before .args in
-    make-well (now (a .bundle)) (a .file) (a .present) (now (a .new-bytes)) (marksIn (now (a .kinds)) (now (a .places)) (now (a .companions))) (now (a .size)) (now (a .work)) (tested .before .call-fault .ensures) (now (a .out)) (tested .if1 .left) (c .before .before .before .before .before .before .before .before .before .before .before .before .before .before .make-lists .ensures) (c .before .before .put-size .ensures)
+    make-well (a .gate) (now (a .bundle)) (a .file) (a .present) (now (a .new-bytes)) (marksIn (now (a .kinds)) (now (a .places)) (now (a .companions))) (now (a .size)) (now (a .work)) (tested .before .call-fault .ensures) (now (a .out)) (tested .if1 .left) (chosen .which-of .ensures) (c .before .before .before .before .before .before .before .before .before .before .before .before .before .before .make-lists .ensures) (c .before .before .put-size .ensures)
 
 pub knotsaddle-make-spec : {M : Type 1} → statement M
 knotsaddle-make-spec =
@@ -66,6 +70,7 @@ knotsaddle-make-spec =
     same-length-3
     same-length-4
     returns
+    which-of-requires
     make-lists-requires
     put-size-requires
     same-length-5

@@ -24,13 +24,16 @@ same-length-4 c = search needs
 returns : tie.Need-returns
 returns c =
     let a = c .before .before .before .before .before .before .before .before .before .before .before .before .before .args in
-    try-ill (now (a .bundle)) (a .file) (a .present) (now (a .new-bytes)) (marksIn (now (a .kinds)) (now (a .places)) (now (a .companions))) (now (a .size)) (now (a .work)) (c .before .call-fault .ensures) (c .if1 .taken)
+    try-ill (a .gate) (now (a .bundle)) (a .file) (a .present) (now (a .new-bytes)) (marksIn (now (a .kinds)) (now (a .places)) (now (a .companions))) (now (a .size)) (now (a .work)) (c .before .call-fault .ensures) (c .if1 .taken)
+
+which-of-requires : tie.Need-which-of-requires
+which-of-requires c κs = search needs
 
 try-lists-requires : tie.Need-try-lists-requires
 try-lists-requires c κs = search needs
 
 put-size-requires : tie.Need-put-size-requires
-put-size-requires c κs = size-fits _ _ _ (c .before .before .before .before .before .before .before .before .before .before .before .before .before .before .before .call-fault .ensures) (c .before .before .before .before .before .before .before .before .before .before .before .before .before .before .if1 .left)
+put-size-requires c κs = size-fits _ _ _ _ (c .before .before .before .before .before .before .before .before .before .before .before .before .before .before .before .before .call-fault .ensures) (c .before .before .before .before .before .before .before .before .before .before .before .before .before .before .before .if1 .left)
 
 same-length-5 : tie.Need-same-length-5
 same-length-5 c = search needs
@@ -49,9 +52,10 @@ same-length-9 c = search needs
 
 returns-2 : tie.Need-returns-2
 returns-2 c =
-    let tested = c .before .before .before .before .before .before .before .before .before .before .before .before .before .before .before .before .before in
+    let chosen = c .before .before .before .before .before .before .before .before .before .before .before .before .before .before .before .before .before in
+    let tested = chosen .before in
     let a = tested .before .before .before .before .before .before .before .before .before .before .before .before .before .args in
-    try-well (now (a .bundle)) (a .file) (a .present) (now (a .new-bytes)) (marksIn (now (a .kinds)) (now (a .places)) (now (a .companions))) (now (a .size)) (now (a .work)) (tested .before .call-fault .ensures) (tested .if1 .left) (c .before .before .before .before .before .before .before .before .before .before .before .before .try-lists .ensures) (c .before .before .put-size .ensures)
+    try-well (a .gate) (now (a .bundle)) (a .file) (a .present) (now (a .new-bytes)) (marksIn (now (a .kinds)) (now (a .places)) (now (a .companions))) (now (a .size)) (now (a .work)) (tested .before .call-fault .ensures) (tested .if1 .left) (chosen .which-of .ensures) (c .before .before .before .before .before .before .before .before .before .before .before .before .try-lists .ensures) (c .before .before .put-size .ensures)
 
 pub knotsaddle-try-spec : {M : Type 1} → statement M
 knotsaddle-try-spec =
@@ -63,6 +67,7 @@ knotsaddle-try-spec =
     same-length-3
     same-length-4
     returns
+    which-of-requires
     try-lists-requires
     put-size-requires
     same-length-5

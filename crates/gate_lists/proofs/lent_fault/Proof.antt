@@ -1,7 +1,7 @@
 -- `gate_lists::lent_fault` meets its contract: each test decides one part of the definition.
 use native.Mathlib.Omega.{arith}
 use Rattle.mark_numbers.proofs.Laws.{lists-wrong, lists-right}
-use Rattle.gate_lists.proofs.Answers.{files-of, wrong-lists, short-work, long-work}
+use Rattle.gate_lists.proofs.Answers.{files-few, wrong-lists, short-work, long-work}
 use borrow.Author.Needs.{needs}
 use Rattle.gate_lists.proofs.lent_fault.Statement.{statement}
 use Rattle.gate_lists.proofs.lent_fault.Tie as tie
@@ -24,7 +24,7 @@ returns-2 c =
 
 returns-3 : tie.Need-returns-3
 returns-3 c =
-    long-work _ _ _ (lists-right _ _ (rw (c .before .before .before .before .mark-count .ensures) at (c .before .before .before .have-length .ensures)) (c .before .before .if1 .left)) (rw (← (files-of _)) (omega arith)) (rw (← (c .before .workspace .ensures)) (c .if2 .left))
+    long-work _ _ _ (lists-right _ _ (rw (c .before .before .before .before .mark-count .ensures) at (c .before .before .before .have-length .ensures)) (c .before .before .if1 .left)) (files-few _) (rw (← (c .before .workspace .ensures)) (c .if2 .left))
 
 pub lent-fault-spec : {M : Type 1} → statement M
 lent-fault-spec =

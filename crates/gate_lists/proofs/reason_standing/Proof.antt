@@ -4,7 +4,7 @@ use denote.Ref.{now}
 use lib.ListN.{length}
 use Rattle.standing.specs.Standing.{standing, startStanding}
 use Rattle.schedule.proofs.Laws.{told-as}
-use Rattle.gate_lists.proofs.Answers.{is-schedule, is-baseline}
+use Rattle.gate_lists.proofs.Answers.{is-schedule, is-baseline, is-contract}
 use Rattle.gate_lists.proofs.reason_standing.Statement.{statement}
 use Rattle.gate_lists.proofs.reason_standing.Tie as tie
 
@@ -19,6 +19,12 @@ enum-told-2 c = search needs
 
 baseline-reason-requires : tie.Need-baseline-reason-requires
 baseline-reason-requires c κs = search needs
+
+enum-told-3 : tie.Need-enum-told-3
+enum-told-3 c = search needs
+
+contract-reason-requires : tie.Need-contract-reason-requires
+contract-reason-requires c κs = search needs
 
 same-length : tie.Need-same-length
 same-length c = search needs
@@ -36,6 +42,14 @@ returns-2 c =
     let a = c .before .before .before .before .before .before .before .before .before .before .before .args in
     told-as (is-baseline (c .before .before .before .before .enum-told2 .given .1)) (startStanding (now (a .a)) (now (a .b)) (now (a .c)) (now (a .stand))) (standing (now (a .a)) (now (a .b)) (now (a .c)) (now (a .stand))) (length (now (a .work))) (a .mark) (now (a .work)) (c .before .before .baseline-reason .ensures)
 
+same-length-3 : tie.Need-same-length-3
+same-length-3 c = search needs
+
+returns-3 : tie.Need-returns-3
+returns-3 c =
+    let a = c .before .before .before .before .before .before .before .before .before .before .before .args in
+    told-as (is-contract (c .before .before .before .before .enum-told3 .given .1)) (startStanding (now (a .a)) (now (a .b)) (now (a .c)) (now (a .stand))) (standing (now (a .a)) (now (a .b)) (now (a .c)) (now (a .stand))) (length (now (a .work))) (a .mark) (now (a .work)) (c .before .before .contract-reason .ensures)
+
 pub reason-standing-spec : {M : Type 1} → statement M
 reason-standing-spec =
     tie.close
@@ -44,7 +58,11 @@ reason-standing-spec =
     schedule-reason-requires
     enum-told-2
     baseline-reason-requires
+    enum-told-3
+    contract-reason-requires
     same-length
     returns
     same-length-2
-    returns-2)
+    returns-2
+    same-length-3
+    returns-3)

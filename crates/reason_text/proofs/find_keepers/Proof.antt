@@ -6,17 +6,17 @@ use lib.ListN.{length, getD, length-set}
 use borrow.Author.Needs.{needs}
 use denote.Ref.{now}
 use Rattle.mark_numbers.specs.Marks.{marksIn}
-use Rattle.schedule.specs.Schedule.{schedule}
+use Rattle.gate_lists.specs.Which.{gateCalled}
 use Rattle.reason_text.specs.Text.{keeperAt}
 use Rattle.reason_text.proofs.Keepers.{keeper-is, stored, all-stored}
 use Rattle.reason_text.proofs.find_keepers.Statement.{statement}
 use Rattle.reason_text.proofs.find_keepers.Tie as tie
 
 abbrev Inv-loop : tie.InvT-loop
-Inv-loop bundle kinds places companions work₀ keepers₀ m₀ work keepers m = ((j : ℕ) → j < m → getD keepers j 0 ≡ keeperAt schedule bundle (marksIn kinds places companions) j) × (length work ≡ length work₀) × (length keepers ≡ length keepers₀) × (m ≤ length keepers₀)
+Inv-loop which bundle kinds places companions work₀ keepers₀ m₀ work keepers m = ((j : ℕ) → j < m → getD keepers j 0 ≡ keeperAt (gateCalled which) bundle (marksIn kinds places companions) j) × (length work ≡ length work₀) × (length keepers ≡ length keepers₀) × (m ≤ length keepers₀)
 
 abbrev μ-loop : tie.MeasureT-loop
-μ-loop bundle kinds places companions work₀ keepers₀ m₀ work keepers m = length keepers₀ - m
+μ-loop which bundle kinds places companions work₀ keepers₀ m₀ work keepers m = length keepers₀ - m
 
 loop-holds : tie.Need-loop-holds Inv-loop μ-loop
 loop-holds c = ((λ j l. absurd (omega arith)), refl, refl, omega arith)
@@ -43,7 +43,7 @@ loop-again : tie.Need-loop-again Inv-loop μ-loop
 loop-again c =
     let a = c .before .before .before .before .before .before .before .before .before .before .before .before .before .args in
     let l = c .before .before .before .before .before .before .loop in
-    (stored (keeperAt schedule (now (a .bundle)) (marksIn (now (a .kinds)) (now (a .places)) (now (a .companions)))) (l .keepers) (l .m) _ (l .inv .0) (omega arith) (keeper-is _ _ _ (c .before .before .before .before .mark-in .ensures) (c .before .before .keeper-at .ensures)), omega arith, length-set (l .keepers) (l .m) _ ∙ l .inv .2, omega arith)
+    (stored (keeperAt (gateCalled (a .which)) (now (a .bundle)) (marksIn (now (a .kinds)) (now (a .places)) (now (a .companions)))) (l .keepers) (l .m) _ (l .inv .0) (omega arith) (keeper-is _ _ _ _ (c .before .before .before .before .mark-in .ensures) (c .before .before .keeper-at .ensures)), omega arith, length-set (l .keepers) (l .m) _ ∙ l .inv .2, omega arith)
 
 same-length : tie.Need-same-length Inv-loop μ-loop
 same-length c = omega arith

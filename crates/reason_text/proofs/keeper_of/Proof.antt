@@ -13,7 +13,7 @@ unfolding keeperOf
 returns c = rw (c .before .told .given .1)
 
 returns-2 : tie.Need-returns-2
-returns-2 c = no-keeper 20 _ (c .match .keys2)
+returns-2 c = no-keeper _ _ (c .match .keys2)
 
 pub keeper-of-spec : {M : Type 1} → statement M
 keeper-of-spec = tie.close (tie.spec enum-known-told returns returns-2)

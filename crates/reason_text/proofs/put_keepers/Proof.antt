@@ -11,13 +11,13 @@ use Rattle.reason_text.proofs.put_keepers.Statement.{statement}
 use Rattle.reason_text.proofs.put_keepers.Tie as tie
 
 abbrev Inv-loop : tie.InvT-loop
-Inv-loop out₀ at keepers end₀ file₀ out end file = (outputAt out end ≡ put (outputAt out₀ at) (keptLines keepers file)) × (length out ≡ length out₀) × (file ≤ 20)
+Inv-loop which out₀ at keepers files end₀ file₀ out end file = (outputAt out end ≡ put (outputAt out₀ at) (keptLines which keepers file)) × (length out ≡ length out₀) × (file ≤ files)
 
 abbrev μ-loop : tie.MeasureT-loop
-μ-loop out₀ at keepers end₀ file₀ out end file = 20 - file
+μ-loop which out₀ at keepers files end₀ file₀ out end file = files - file
 
 loop-holds : tie.Need-loop-holds Inv-loop μ-loop
-loop-holds c = (keepers-start _ _, refl, omega arith)
+loop-holds c = (keepers-start _ _ _, refl, omega arith)
 
 count-kept-requires : tie.Need-count-kept-requires Inv-loop μ-loop
 count-kept-requires c κs = search needs
@@ -32,13 +32,13 @@ loop-less : tie.Need-loop-less Inv-loop μ-loop
 loop-less c = omega arith
 
 loop-again : tie.Need-loop-again Inv-loop μ-loop
-loop-again c = (keepers-next _ _ _ (c .before .before .before .count-kept .ensures) (c .before .before .before .before .before .before .loop .inv .0) (c .before .before .put-kept .ensures), omega arith, omega arith)
+loop-again c = (keepers-next _ _ _ _ (c .before .before .before .count-kept .ensures) (c .before .before .before .before .before .before .loop .inv .0) (c .before .before .put-kept .ensures), omega arith, omega arith)
 
 same-length : tie.Need-same-length Inv-loop μ-loop
 same-length c = omega arith
 
 returns : tie.Need-returns Inv-loop μ-loop
-returns c = keepers-end _ _ (omega arith) (c .before .loop .inv .0)
+returns c = keepers-end _ _ _ (omega arith) (c .before .loop .inv .0)
 
 pub put-keepers-spec : {M : Type 1} → statement M
 put-keepers-spec =

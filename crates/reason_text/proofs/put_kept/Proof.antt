@@ -5,7 +5,7 @@ use Rattle.reason_text.proofs.put_kept.Statement.{statement}
 use Rattle.reason_text.proofs.put_kept.Tie as tie
 
 returns : tie.Need-returns
-returns c = kept-none _ _ _ (c .if1 .taken)
+returns c = kept-none _ _ _ _ (c .if1 .taken)
 
 kept-sentence-requires : tie.Need-kept-sentence-requires
 kept-sentence-requires c κs = search needs
@@ -26,7 +26,7 @@ same-length : tie.Need-same-length
 same-length c = search needs
 
 returns-2 : tie.Need-returns-2
-returns-2 c = kept-put _ _ _ (c .before .before .before .before .before .before .before .before .before .before .before .if1 .left) (c .before .before .before .before .before .before .before .before .before .kept-sentence .ensures) (c .before .before .before .before .before .before .before .before .file-slots .ensures) (c .before .before .before .before .before .before .put-sentence .ensures) (c .before .before .put-byte .ensures)
+returns-2 c = kept-put _ _ _ _ (c .before .before .before .before .before .before .before .before .before .before .before .if1 .left) (c .before .before .before .before .before .before .before .before .before .kept-sentence .ensures) (c .before .before .before .before .before .before .before .before .file-slots .ensures) (c .before .before .before .before .before .before .put-sentence .ensures) (c .before .before .put-byte .ensures)
 
 pub put-kept-spec : {M : Type 1} → statement M
 put-kept-spec =

@@ -26,9 +26,12 @@ same-length c = search needs
 same-length-2 : tie.Need-same-length-2
 same-length-2 c = search needs
 
+same-length-3 : tie.Need-same-length-3
+same-length-3 c = search needs
+
 returns : tie.Need-returns
 unfolding codes
-returns c = marks-put _ _ _ _ (c .before .before .before .before .before .before .before .before .before .before .before .before .before .before .before .before .before .before .before .before .put-counted .ensures) (c .before .before .before .before .before .before .before .before .before .before .before .before .before .before .before .put-lines .ensures) (c .before .before .before .before .before .before .before .before .put-groups .ensures) (c .before .before .put-last .ensures)
+returns c = marks-put _ _ _ _ _ (c .before .before .before .before .before .before .before .before .before .before .before .before .before .before .before .before .before .before .before .before .before .before .before .put-counted .ensures) (c .before .before .before .before .before .before .before .before .before .before .before .before .before .before .before .before .before .before .put-lines .ensures) (c .before .before .before .before .before .before .before .before .before .before .put-groups .ensures) (c .before .before .put-last .ensures)
 
 pub put-marks-spec : {M : Type 1} → statement M
 put-marks-spec =
@@ -41,4 +44,5 @@ put-marks-spec =
     put-last-requires
     same-length
     same-length-2
+    same-length-3
     returns)

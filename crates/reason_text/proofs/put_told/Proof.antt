@@ -20,7 +20,7 @@ same-length : tie.Need-same-length
 same-length c = search needs
 
 returns : tie.Need-returns
-returns c = sentence-put _ _ _ _ (c .before .before .before .before .before .before .slots-of .ensures) (c .before .before .before .before .before .value-shown .ensures) (c .before .before .before .before .sentence-number .ensures) (c .before .before .put-sentence .ensures)
+returns c = sentence-put _ _ _ _ _ (c .before .before .before .before .before .before .slots-of .ensures) (c .before .before .before .before .before .value-shown .ensures) (c .before .before .before .before .sentence-number .ensures) (c .before .before .put-sentence .ensures)
 
 pub put-told-spec : {M : Type 1} → statement M
 put-told-spec =

@@ -29,7 +29,7 @@ reasons-requires : tie.Need-reasons-requires
 reasons-requires c κs = search needs
 
 same-length-2 : tie.Need-same-length-2
-same-length-2 c = c .before .before .before .reasons .kept .1 .1 .1 .0
+same-length-2 c = c .before .before .before .reasons .kept .1 .1 .1 .1 .0
 
 returns-2 : tie.Need-returns-2
 returns-2 c =

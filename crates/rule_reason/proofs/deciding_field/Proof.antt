@@ -67,6 +67,15 @@ enum-known-rule-15 c = search needs
 enum-known-rule-16 : tie.Need-enum-known-rule-16
 enum-known-rule-16 c = search needs
 
+enum-known-rule-17 : tie.Need-enum-known-rule-17
+enum-known-rule-17 c = search needs
+
+enum-known-rule-18 : tie.Need-enum-known-rule-18
+enum-known-rule-18 c = search needs
+
+enum-known-rule-19 : tie.Need-enum-known-rule-19
+enum-known-rule-19 c = search needs
+
 returns : tie.Need-returns
 unfolding decidingField
 returns c = rw (← (c .before .before .before .rule-at .ensures), c .before .rule .given .1)
@@ -131,6 +140,18 @@ returns-16 : tie.Need-returns-16
 unfolding decidingField
 returns-16 c = rw (← (c .before .before .before .rule-at .ensures), c .before .rule16 .given .1)
 
+returns-17 : tie.Need-returns-17
+unfolding decidingField
+returns-17 c = rw (← (c .before .before .before .rule-at .ensures), c .before .rule17 .given .1)
+
+returns-18 : tie.Need-returns-18
+unfolding decidingField
+returns-18 c = rw (← (c .before .before .before .rule-at .ensures), c .before .rule18 .given .1)
+
+returns-19 : tie.Need-returns-19
+unfolding decidingField
+returns-19 c = rw (← (c .before .before .before .rule-at .ensures), c .before .rule19 .given .1)
+
 pub deciding-field-spec : {M : Type 1} → statement M
 deciding-field-spec =
     tie.close
@@ -156,6 +177,9 @@ deciding-field-spec =
     enum-known-rule-14
     enum-known-rule-15
     enum-known-rule-16
+    enum-known-rule-17
+    enum-known-rule-18
+    enum-known-rule-19
     returns
     returns-2
     returns-3
@@ -171,4 +195,7 @@ deciding-field-spec =
     returns-13
     returns-14
     returns-15
-    returns-16)
+    returns-16
+    returns-17
+    returns-18
+    returns-19)

@@ -80,7 +80,19 @@ unfolding ruleOf shapesOf
 returns-15 c = rw (c .match .keys15)
 
 returns-16 : tie.Need-returns-16
-returns-16 c = sym (last-shape _ _ _ _ _ _ _ _ _ (passed _ 15 (c .match .rest)))
+unfolding ruleOf shapesOf
+returns-16 c = rw (c .match .keys16)
+
+returns-17 : tie.Need-returns-17
+unfolding ruleOf shapesOf
+returns-17 c = rw (c .match .keys17)
+
+returns-18 : tie.Need-returns-18
+unfolding ruleOf shapesOf
+returns-18 c = rw (c .match .keys18)
+
+returns-19 : tie.Need-returns-19
+returns-19 c = sym (last-shape _ _ _ _ _ _ _ _ _ (passed _ 18 (c .match .rest)))
 
 pub rule-of-spec : {M : Type 1} → statement M
 rule-of-spec =
@@ -101,4 +113,7 @@ rule-of-spec =
     returns-13
     returns-14
     returns-15
-    returns-16)
+    returns-16
+    returns-17
+    returns-18
+    returns-19)

@@ -1,4 +1,4 @@
--- `rule_shape::second_file` meets its contract: the shapes below 13 look into no other file.
+-- `rule_shape::second_file` meets its contract: the shapes below 15 look into no other file.
 use mathlib.Core.Path.{sym, _∙_}
 use borrow.Author.Needs.{needs}
 use Rattle.rule_shape.proofs.Laws.{second-own, second-other}

@@ -123,11 +123,26 @@ alone-requires-11 c κs = search needs
 enum-known-rule-14 : tie.Need-enum-known-rule-14
 enum-known-rule-14 c = search needs
 
-target-break-requires : tie.Need-target-break-requires
-target-break-requires c κs = search needs
+tree-level-rule-requires : tie.Need-tree-level-rule-requires
+tree-level-rule-requires c κs = search needs
+
+alone-requires-12 : tie.Need-alone-requires-12
+alone-requires-12 c κs = search needs
 
 enum-known-rule-15 : tie.Need-enum-known-rule-15
 enum-known-rule-15 c = search needs
+
+tree-parent-break-requires : tie.Need-tree-parent-break-requires
+tree-parent-break-requires c κs = search needs
+
+enum-known-rule-16 : tie.Need-enum-known-rule-16
+enum-known-rule-16 c = search needs
+
+target-break-requires : tie.Need-target-break-requires
+target-break-requires c κs = search needs
+
+enum-known-rule-17 : tie.Need-enum-known-rule-17
+enum-known-rule-17 c = search needs
 
 value-start-requires : tie.Need-value-start-requires
 value-start-requires c κs = search needs
@@ -141,8 +156,14 @@ part-requires c κs = search needs
 parent-type-break-requires : tie.Need-parent-type-break-requires
 parent-type-break-requires c κs = search needs
 
-enum-known-rule-16 : tie.Need-enum-known-rule-16
-enum-known-rule-16 c = search needs
+enum-known-rule-18 : tie.Need-enum-known-rule-18
+enum-known-rule-18 c = search needs
+
+leaf-break-requires : tie.Need-leaf-break-requires
+leaf-break-requires c κs = search needs
+
+enum-known-rule-19 : tie.Need-enum-known-rule-19
+enum-known-rule-19 c = search needs
 
 target-break-requires-2 : tie.Need-target-break-requires-2
 target-break-requires-2 c κs = search needs
@@ -201,15 +222,27 @@ returns-13 c = rw (← (c .before .before .before .before .before .rule-at .ensu
 
 returns-14 : tie.Need-returns-14
 unfolding ruleBreak
-returns-14 c = rw (← (c .before .before .before .before .rule-at .ensures), c .before .before .rule14 .given .1) (c .target-break .ensures)
+returns-14 c = rw (← (c .before .before .before .before .before .rule-at .ensures), c .before .before .before .rule14 .given .1) (c .alone12 .ensures ∙ ap alone (c .before .tree-level-rule .ensures))
 
 returns-15 : tie.Need-returns-15
-unfolding ruleBreak valueTextAt
-returns-15 c = rw (← (c .before .before .before .before .before .before .before .rule-at .ensures), c .before .before .before .before .before .rule15 .given .1, ← (c .before .before .before .value-start .ensures), ← (c .before .before .value-end .ensures), ← (c .before .part .ensures)) (c .parent-type-break .ensures)
+unfolding ruleBreak
+returns-15 c = rw (← (c .before .before .before .before .rule-at .ensures), c .before .before .rule15 .given .1) (c .tree-parent-break .ensures)
 
 returns-16 : tie.Need-returns-16
 unfolding ruleBreak
-returns-16 c = rw (← (c .before .before .before .before .rule-at .ensures), c .before .before .rule16 .given .1) (c .target-break2 .ensures)
+returns-16 c = rw (← (c .before .before .before .before .rule-at .ensures), c .before .before .rule16 .given .1) (c .target-break .ensures)
+
+returns-17 : tie.Need-returns-17
+unfolding ruleBreak valueTextAt
+returns-17 c = rw (← (c .before .before .before .before .before .before .before .rule-at .ensures), c .before .before .before .before .before .rule17 .given .1, ← (c .before .before .before .value-start .ensures), ← (c .before .before .value-end .ensures), ← (c .before .part .ensures)) (c .parent-type-break .ensures)
+
+returns-18 : tie.Need-returns-18
+unfolding ruleBreak
+returns-18 c = rw (← (c .before .before .before .before .rule-at .ensures), c .before .before .rule18 .given .1) (c .leaf-break .ensures)
+
+returns-19 : tie.Need-returns-19
+unfolding ruleBreak
+returns-19 c = rw (← (c .before .before .before .before .rule-at .ensures), c .before .before .rule19 .given .1) (c .target-break2 .ensures)
 
 pub rule-break-spec : {M : Type 1} → statement M
 rule-break-spec =
@@ -254,13 +287,20 @@ rule-break-spec =
     in-order-requires
     alone-requires-11
     enum-known-rule-14
-    target-break-requires
+    tree-level-rule-requires
+    alone-requires-12
     enum-known-rule-15
+    tree-parent-break-requires
+    enum-known-rule-16
+    target-break-requires
+    enum-known-rule-17
     value-start-requires
     value-end-requires
     part-requires
     parent-type-break-requires
-    enum-known-rule-16
+    enum-known-rule-18
+    leaf-break-requires
+    enum-known-rule-19
     target-break-requires-2
     returns
     returns-2
@@ -277,4 +317,7 @@ rule-break-spec =
     returns-13
     returns-14
     returns-15
-    returns-16)
+    returns-16
+    returns-17
+    returns-18
+    returns-19)

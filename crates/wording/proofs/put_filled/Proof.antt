@@ -11,10 +11,10 @@ use Rattle.wording.proofs.put_filled.Statement.{statement}
 use Rattle.wording.proofs.put_filled.Tie as tie
 
 abbrev Inv-loop : tie.InvT-loop
-Inv-loop out₀ at sentence slots value end₀ i₀ out end i = (put (outputAt out end) (filled slots value (drop i sentence)) ≡ put (outputAt out₀ at) (filled slots value sentence)) × (length out ≡ length out₀) × (i ≤ length sentence)
+Inv-loop which out₀ at sentence slots value end₀ i₀ out end i = (put (outputAt out end) (filled which slots value (drop i sentence)) ≡ put (outputAt out₀ at) (filled which slots value sentence)) × (length out ≡ length out₀) × (i ≤ length sentence)
 
 abbrev μ-loop : tie.MeasureT-loop
-μ-loop out₀ at sentence slots value end₀ i₀ out end i = length sentence - i
+μ-loop which out₀ at sentence slots value end₀ i₀ out end i = length sentence - i
 
 loop-holds : tie.Need-loop-holds Inv-loop μ-loop
 loop-holds c = (refl, refl, omega arith)
@@ -32,13 +32,13 @@ loop-less : tie.Need-loop-less Inv-loop μ-loop
 loop-less c = omega arith
 
 loop-again : tie.Need-loop-again Inv-loop μ-loop
-loop-again c = (filled-next _ _ _ _ _ (c .before .before .before .before .before .loop-test .taken) (c .before .before .put-sign .ensures) (c .before .before .before .before .before .before .loop .inv .0), omega arith, omega arith)
+loop-again c = (filled-next _ _ _ _ _ _ (c .before .before .before .before .before .loop-test .taken) (c .before .before .put-sign .ensures) (c .before .before .before .before .before .before .loop .inv .0), omega arith, omega arith)
 
 same-length : tie.Need-same-length Inv-loop μ-loop
 same-length c = omega arith
 
 returns : tie.Need-returns Inv-loop μ-loop
-returns c = filled-end _ _ _ _ _ (c .loop-test .left) (c .before .loop .inv .0)
+returns c = filled-end _ _ _ _ _ _ (c .loop-test .left) (c .before .loop .inv .0)
 
 pub put-filled-spec : {M : Type 1} → statement M
 put-filled-spec =

@@ -1,4 +1,4 @@
--- `wording::sentence_start` meets its contract: the code's 83 numbers are computed from the sentences.
+-- `wording::sentence_start` meets its contract: the code's 87 numbers are computed from the sentences.
 use mathlib.Core.Path.{sym}
 use mathlib.Core.List.{flatten}
 use native.Mathlib.Omega.{arith}
@@ -20,7 +20,7 @@ array-read-result c = search needs
 
 returns : tie.Need-returns
 unfolding upFrom sentenceStart countBefore flatten sentences codes
-returns c = below-at sentenceStart 0 83 (c .before .args .n) (omega arith)
+returns c = below-at sentenceStart 0 87 (c .before .args .n) (omega arith)
 
 array-read-result-2 : tie.Need-array-read-result-2
 array-read-result-2 c = search needs

@@ -1,0 +1,3 @@
+pub mod Opens
+pub mod Facts
+pub mod Cases

@@ -1,0 +1,4 @@
+pub mod Laws
+pub mod Demands
+pub mod Whole
+pub mod Run

@@ -1,0 +1,4 @@
+pub mod Join
+pub mod Desks
+pub mod Lent
+pub mod Run

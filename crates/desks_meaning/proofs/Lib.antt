@@ -1,0 +1,3 @@
+pub mod Refusals
+pub mod Written
+pub mod Tries

@@ -1,0 +1,1 @@
+// What the definitions of the desks mean is laws alone: see `proofs/`.

@@ -1,0 +1,4 @@
+pub mod Lists
+pub mod Placing
+pub mod Header
+pub mod Steps

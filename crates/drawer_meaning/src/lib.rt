@@ -1,0 +1,1 @@
+// What a change of a drawer comes to is laws alone: see `proofs/`.

@@ -1,0 +1,5 @@
+pub mod Children
+pub mod Laws
+pub mod Rules
+pub mod Opens
+pub mod Cases
