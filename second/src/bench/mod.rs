@@ -1,11 +1,6 @@
-//! Measuring two programs that answer the cases of `compare_gate`, on one
-//! footing: `plan`, `files` and `sets` make the sets, `operations` the cases,
-//! `measure` the figures and `rows` the printed table.
+//! The sets that `./bench` measures: `plan` invents a schedule, `files` writes
+//! its tables, and `sets` makes whole sets of a size.
 
-pub mod command;
 mod files;
-pub mod measure;
-pub mod operations;
 mod plan;
-mod rows;
 pub mod sets;

@@ -5,6 +5,7 @@
 use super::files;
 use super::plan::Plan;
 use crate::compare::gate::sample::Set;
+use crate::compare::random::Random;
 
 /// Sizes of the whole sets in bytes.
 pub const SIZES: [usize; 3] = [60_000, 250_000, 1_000_000];
@@ -60,6 +61,65 @@ fn whole_set_of(tasks: usize, seed: u64) -> Set {
         files::assignments(&mut plan),
     ];
     Set { files: contents.into_iter().map(|file| Some(file.into_bytes())).collect() }
+}
+
+/// The same set with its fields in any order and one letter in twenty of its
+/// values written as an escape: the same marks, and more to do for a reader.
+/// Records stand in lines, as `files` makes them.
+pub fn scrambled(set: &Set, seed: u64) -> Set {
+    let mut random = Random::new(seed);
+    let files = set.files.iter().enumerate().map(|(number, file)| {
+        let text = String::from_utf8(file.clone()?).expect("sets are made of text");
+        if number < 4 {
+            return Some(text.into_bytes());
+        }
+        let lines: Vec<String> =
+            text.lines().map(|line| scrambled_line(line, &mut random)).collect();
+        Some((lines.join("\n") + "\n").into_bytes())
+    });
+    Set { files: files.collect() }
+}
+
+/// A record with its fields in another order; a line that does not begin with
+/// one, as it is.
+fn scrambled_line(line: &str, random: &mut Random) -> String {
+    let Some((record, behind)) = line.strip_prefix('{').and_then(|rest| rest.split_once('}'))
+    else {
+        return line.to_string();
+    };
+    let mut fields: Vec<String> =
+        members(record).into_iter().map(|field| with_escapes(field, random)).collect();
+    for at in (1..fields.len()).rev() {
+        fields.swap(at, random.below(at + 1));
+    }
+    format!("{{{}}}{behind}", fields.join(","))
+}
+
+/// The fields of a record, cut at the commas outside strings.
+fn members(record: &str) -> Vec<&str> {
+    let (mut found, mut start, mut quoted) = (Vec::new(), 0, false);
+    for (at, byte) in record.bytes().enumerate() {
+        match byte {
+            b'"' => quoted = !quoted,
+            b',' if !quoted => {
+                found.push(&record[start..at]);
+                start = at + 1;
+            }
+            _ => {}
+        }
+    }
+    found.push(&record[start..]);
+    found
+}
+
+/// A field whose value is a string, with one letter in twenty of it escaped.
+fn with_escapes(field: &str, random: &mut Random) -> String {
+    let Some((name, value)) = field.split_once("\":\"") else { return field.to_string() };
+    let letters = value.chars().map(|letter| match random.below(20) {
+        0 if letter.is_ascii_alphanumeric() => format!("\\u{:04x}", letter as u32),
+        _ => letter.to_string(),
+    });
+    format!("{name}\":\"{}", letters.collect::<String>())
 }
 
 /// So many tasks, each linked with the one before, in packages under one
@@ -154,6 +214,19 @@ mod tests {
     fn one_seed_gives_one_set() {
         assert_eq!(whole_set(60_000, 7), whole_set(60_000, 7));
         assert_ne!(whole_set(60_000, 7), whole_set(60_000, 8));
+    }
+
+    #[test]
+    fn a_scrambled_set_has_the_same_marks_and_records() {
+        let set = whole_set(60_000, 7);
+        let other = scrambled(&set, 7);
+        assert_ne!(set, other);
+        assert_eq!(other.faults(), []);
+        for number in 4..20 {
+            assert_eq!(records(&set, number), records(&other, number), "file {number}");
+        }
+        let escapes = other.bundle().windows(2).filter(|pair| *pair == b"\\u").count();
+        assert!(escapes > 200, "{escapes}");
     }
 
     #[test]

@@ -4,10 +4,8 @@
 
 pub mod calls;
 pub mod layout;
-#[cfg(not(serve_only))]
 pub mod print;
 pub mod reason;
-#[cfg(not(serve_only))]
 pub mod sentence;
 
 use crate::board::{broken_at, Mark, HOLDS, NOT_JUDGED};

@@ -6,13 +6,9 @@ use std::collections::BTreeSet;
 use crate::fields::{fields_of, Type};
 use crate::table::is_singleton;
 
-#[cfg(not(serve_only))]
 pub mod case;
-#[cfg(not(serve_only))]
 pub mod cases;
-#[cfg(not(serve_only))]
 mod sights;
-#[clippy::msrv = "1.63"]
 pub mod standing;
 
 /// Until order 4 the kind of every broken string rule; no mark has it since.
