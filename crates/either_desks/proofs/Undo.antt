@@ -26,7 +26,7 @@ use Rattle.desks_calls.proofs.Demands.{judged}
 use Rattle.desks_calls.proofs.Run.{Right}
 use Rattle.either_first.specs.Undone.{RightFor}
 use Rattle.either_first.proofs.Files.{marks-restored, restored-right, full-right}
-use Rattle.either_desks.specs.Either.{Accepted, handedOn, undoing, isOwn, isCommon, sees, undoneBoard, undone}
+use Rattle.either_desks.specs.Either.{Accepted, handedOn, undoing, isOwn, isCommon, sees, undoneBoard, undone, RightSeen}
 use Rattle.either_desks.proofs.Desk.{or-none, now-back, desk-undone, desk-refusal}
 use Rattle.either_desks.proofs.Desks.{both-common, stateOf, nowA, nowB, nowShared, taken-a, taken-b, now-is, twice-is}
 
@@ -90,14 +90,14 @@ module _ (g : Gate) (desk shared : List ℕ) (seen : Seen) (k : ℕ) (handed : M
       by-test (λ r. r ≡ handed) (eqb (joinFault (g .files) desk shared) 0 && sees seen) _ _
       (λ e. same (eqb-true _ 0 (both-left (eqb (joinFault (g .files) desk shared) 0) (sees seen) e)) (both-right (eqb (joinFault (g .files) desk shared) 0) (sees seen) e)) (λ e. refl)
 
-  pub board-restored : Long (marksOf g) handed → (joinFault (g .files) desk shared ≡ 0 → sees seen ≡ true → RightFor g k (joinedSet desk shared) handed) → undoneBoard g desk shared seen k handed ≡ handed
+  board-restored : Long (marksOf g) handed → (joinFault (g .files) desk shared ≡ 0 → sees seen ≡ true → RightFor g k (joinedSet desk shared) handed) → undoneBoard g desk shared seen k handed ≡ handed
   board-restored long right = restored-by (λ fine e. marks-restored g (joinedSet desk shared) k (joinedSet desk shared k) handed long (right fine e))
 
-  pub restored-board : undoneBoard g desk shared seen k handed ≡ handed → joinFault (g .files) desk shared ≡ 0 → sees seen ≡ true → RightFor g k (joinedSet desk shared) handed
+  restored-board : undoneBoard g desk shared seen k handed ≡ handed → joinFault (g .files) desk shared ≡ 0 → sees seen ≡ true → RightFor g k (joinedSet desk shared) handed
   unfolding undoneBoard
   restored-board same fine e = restored-right g (joinedSet desk shared) k (joinedSet desk shared k) handed (rw (eq-eqb _ 0 fine, e) at same)
 
-  pub board-judged : handed ≡ judgedJoin g desk shared .marks → undoneBoard g desk shared seen k handed ≡ handed
+  board-judged : handed ≡ judgedJoin g desk shared .marks → undoneBoard g desk shared seen k handed ≡ handed
   unfolding fullMarks
   board-judged right = restored-by (λ fine e. let z : handed ≡ fullMarks g (joinedSet desk shared) = right ∙ ap (λ r. r .marks) (judged g desk shared fine) in
       marks-restored g (joinedSet desk shared) k (joinedSet desk shared k) handed (rw z (marks-long (marksOf g) (λ m. markAt g m (joinedSet desk shared)))) (rw z (full-right g (joinedSet desk shared) k)))
@@ -180,6 +180,20 @@ module _ (g : Gate) (x : State) (c : Call) (accepted : Accepted g x c) (room : �
           ends : stateOf (nowA g (undoing x c room) (nowA g c (x .a))) (nowB g (undoing x c room) (nowB g c (x .b))) (nowShared g (undoing x c room) (nowShared g c (x .shared))) (answerTo g (handedOn g x c) (undoing x c room) .a .marks) (answerTo g (handedOn g x c) (undoing x c room) .b .marks)
               ≡ stateOf (x .a) (x .b) (x .shared) (undone g x c .marksA) (undone g x c .marksB)
           ends = rw (back-a, back-b, back-shared, answer-undone-a, answer-undone-b)
+
+      -- everything comes back exactly if the marks that read the file were right
+      pub undo : Long (marksOf g) (x .marksA) → Long (marksOf g) (x .marksB) → RightSeen g x c → handedOn g (handedOn g x c) (undoing x c room) ≡ x
+      unfolding undone
+      undo long-a long-b right =
+          undone-is ∙ rw (board-restored g (x .a) (x .shared) (seenByA (c .whose)) (c .file) (x .marksA) long-a (right .at-a), board-restored g (x .b) (x .shared) (seenByB (c .whose)) (c .file) (x .marksB) long-b (right .at-b))
+
+      pub undone-right : handedOn g (handedOn g x c) (undoing x c room) ≡ x → RightSeen g x c
+      unfolding undone
+      undone-right same =
+          record {
+            at-a = restored-board g (x .a) (x .shared) (seenByA (c .whose)) (c .file) (x .marksA) (ap (λ (y : State). y .marksA) (sym undone-is ∙ same));
+            at-b = restored-board g (x .b) (x .shared) (seenByB (c .whose)) (c .file) (x .marksB) (ap (λ (y : State). y .marksB) (sym undone-is ∙ same));
+          }
 
       -- "and a board from full judgement"
       pub undo-judged : Right g x → handedOn g (handedOn g x c) (undoing x c room) ≡ x

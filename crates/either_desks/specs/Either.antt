@@ -13,6 +13,7 @@ use Rattle.desks_calls.specs.declared.Seen.the-variants.{Nothing, Own, Shared}
 use Rattle.desks_calls.specs.Join.{joinedSet, joinFault}
 use Rattle.desks_calls.specs.Desks.{seenByA, seenByB, bundleChanged, isWritten}
 use Rattle.desks_calls.specs.Run.{Call, State, answerTo, stepped}
+use Rattle.either_first.specs.Undone.{RightFor}
 
 -- "Changes to two different files": of one bundle two numbers, of two bundles any, so that two desks' files of one number are two
 abbrev pub Apart : Call → Call → Type 0
@@ -71,3 +72,8 @@ undone g x c =
       marksA = undoneBoard g (x .a) (x .shared) (seenByA (c .whose)) (c .file) (x .marksA);
       marksB = undoneBoard g (x .b) (x .shared) (seenByB (c .whose)) (c .file) (x .marksB);
     }
+
+-- of each desk that sees the change and whose bundles are not refused, the marks that read the file are those of the joined set
+pub record RightSeen (g : Gate) (x : State) (c : Call) : Type 0 where
+  pub at-a : joinFault (g .files) (x .a) (x .shared) ≡ 0 → sees (seenByA (c .whose)) ≡ true → RightFor g (c .file) (joinedSet (x .a) (x .shared)) (x .marksA)
+  pub at-b : joinFault (g .files) (x .b) (x .shared) ≡ 0 → sees (seenByB (c .whose)) ≡ true → RightFor g (c .file) (joinedSet (x .b) (x .shared)) (x .marksB)
