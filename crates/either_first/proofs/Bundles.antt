@@ -3,20 +3,15 @@
 -- board from full judgement."
 -- Assumes nothing.
 use Prim.Native.Nat.{ℕ, _≤_, _<_}
-use mathlib.Core.Path.{_≡_, refl, sym, ap, _∙_}
-use mathlib.Core.Bool.{Bool, true, false, cond}
-use mathlib.Core.List.{List}
-use native.Mathlib.Omega.{arith}
-use borrow.Author.Tests.{eq-eqb, lt-ltb, le-ltb}
+use mathlib.Core.Path.{_≡_, sym, ap, _∙_}
+use mathlib.Core.Bool.{cond}
+use borrow.Author.Tests.{eq-eqb, le-ltb}
 use lib.ListN.{length}
-use lib.Dec.{ltb, eqb}
-use Rattle.json_bytes.proofs.Laws.{by-test}
-use Rattle.parts.specs.Files.{File}
+use lib.Dec.{ltb}
 use Rattle.bundle_bytes.specs.Pieces.{changed}
 use Rattle.bundle_bytes.proofs.Laws.{Bytes}
-use Rattle.mark_numbers.specs.Marks.{Marks}
 use Rattle.mark_numbers.proofs.Laws.{Long, marks-long}
-use Rattle.bundle_layout.specs.Bundle.{bundleFault, fileAt, bundleOf, bundleLength}
+use Rattle.bundle_layout.specs.Bundle.{fileAt, bundleLength}
 use Rattle.bundle_layout.specs.Change.{filesAfter, tryFault, makeFault}
 use Rattle.bundle_layout.proofs.Laws.{fault-size, valid-length, try-none, try-fine, make-none}
 use Rattle.bundle_layout.proofs.RoundTrip.{bundle-same, length-same, after-change, written-again}
@@ -26,15 +21,10 @@ use Rattle.gate_calls.specs.Calls.{changedMarks}
 use Rattle.gate_calls.specs.Sequence.{Step, State, next, stepped}
 use Rattle.gate_calls.proofs.Demand3.{Right}
 use Rattle.either_first.specs.Undone.{Accepted, BothOrders, undoing, RightFor}
-use Rattle.either_first.proofs.Files.{files-commute, second-counts, put-back, changed-below, marks-commute, marks-undone, marks-restored, restored-right, full-right}
+use Rattle.either_first.proofs.Files.{files-back, marks-back, files-either, marks-either, marks-restored, restored-right, full-right}
 
 state-same : (a b : State) → a .bundle ≡ b .bundle → a .marks ≡ b .marks → a ≡ b
 state-same a b e q = rw (e, q)
-
--- the files of a bundle after a change, and after a change of that
-changed-same : {A : Type 0} (files others : ℕ → A) (k : ℕ) (f : A) (i : ℕ) → files i ≡ others i → changed files k f i ≡ changed others k f i
-unfolding changed
-changed-same files others k f i e = ap (cond (eqb i k) f) e
 
 -- a step that is accepted is made
 pub made : (g : Gate) (x : State) (c : Step) → Accepted g x c → stepped g x c ≡ next g x c
@@ -46,25 +36,24 @@ module _ (g : Gate) (x : State) where
   unfolding Accepted
   can-try c e = make-none (g .files) (x .bundle) (c .file) (c .new) (c .room) e .0
 
-  -- the files at hand after two steps
-  files-then : (c d : Step) → Accepted g x c → (i : ℕ) → i < g .files → filesAfter (next g x c .bundle) (d .file) (d .new) i ≡ changed (changed (fileAt (x .bundle)) (c .file) (c .new)) (d .file) (d .new) i
+  -- the files at hand after a step
+  files-left : (c : Step) → Accepted g x c → (i : ℕ) → i < g .files → fileAt (next g x c .bundle) i ≡ changed (fileAt (x .bundle)) (c .file) (c .new) i
   unfolding next filesAfter
-  files-then c d e i l =
-      changed-same (fileAt (next g x c .bundle)) (changed (fileAt (x .bundle)) (c .file) (c .new)) (d .file) (d .new) i
-      (after-change (g .files) (x .bundle) (c .file) (c .new) (can-try c e) .1 i l)
-
-  module _ (c d : Step) (e : Accepted g x c) where
-    bundle-then : next g (next g x c) d .bundle ≡ bundleOf (g .files) (changed (changed (fileAt (x .bundle)) (c .file) (c .new)) (d .file) (d .new))
-    unfolding next
-    bundle-then =
-        bundle-same (g .files) (filesAfter (next g x c .bundle) (d .file) (d .new)) (changed (changed (fileAt (x .bundle)) (c .file) (c .new)) (d .file) (d .new)) (files-then c d e)
-
-    marks-then : next g (next g x c) d .marks ≡ changedMarks g (d .file) (changed (changed (fileAt (x .bundle)) (c .file) (c .new)) (d .file) (d .new)) (changedMarks g (c .file) (changed (fileAt (x .bundle)) (c .file) (c .new)) (x .marks))
-    unfolding next filesAfter
-    marks-then =
-        changed-below g (d .file) (filesAfter (next g x c .bundle) (d .file) (d .new)) (changed (changed (fileAt (x .bundle)) (c .file) (c .new)) (d .file) (d .new)) (next g x c .marks) (files-then c d e)
+  files-left c e = after-change (g .files) (x .bundle) (c .file) (c .new) (can-try c e) .1
 
   -- ---- two changes of two files, accepted in both orders, from any handed board
+  module _ (c d : Step) (apart : c .file ≡ d .file → ⊥) (e : Accepted g x c) (h : Accepted g x d) where
+    pub bundles-either : next g (next g x c) d .bundle ≡ next g (next g x d) c .bundle
+    unfolding next filesAfter
+    bundles-either =
+        bundle-same (g .files) (filesAfter (next g x c .bundle) (d .file) (d .new)) (filesAfter (next g x d .bundle) (c .file) (c .new))
+        (files-either g (fileAt (x .bundle)) (c .file) (d .file) (c .new) (d .new) apart (fileAt (next g x c .bundle)) (fileAt (next g x d .bundle)) (files-left c e) (files-left d h))
+
+    boards-either : next g (next g x c) d .marks ≡ next g (next g x d) c .marks
+    unfolding next filesAfter
+    boards-either =
+        marks-either g (fileAt (x .bundle)) (c .file) (d .file) (c .new) (d .new) apart (fileAt (next g x c .bundle)) (fileAt (next g x d .bundle)) (files-left c e) (files-left d h) (x .marks)
+
   pub either-first : (c d : Step) → (c .file ≡ d .file → ⊥) → BothOrders g x c d → stepped g (stepped g x c) d ≡ stepped g (stepped g x d) c
   either-first c d apart both =
       rw (made g x c (both .c-first), made g x d (both .d-first)) ends
@@ -72,8 +61,7 @@ module _ (g : Gate) (x : State) where
       same : next g (next g x c) d ≡ next g (next g x d) c
       same =
           state-same (next g (next g x c) d) (next g (next g x d) c)
-          (bundle-then c d (both .c-first) ∙ bundle-same (g .files) _ _ (λ i l. files-commute (fileAt (x .bundle)) (c .file) (d .file) (c .new) (d .new) apart i) ∙ sym (bundle-then d c (both .d-first)))
-          (marks-then c d (both .c-first) ∙ marks-commute g (fileAt (x .bundle)) (c .file) (d .file) (c .new) (d .new) apart (x .marks) ∙ sym (marks-then d c (both .d-first)))
+          (bundles-either c d apart (both .c-first) (both .d-first)) (boards-either c d apart (both .c-first) (both .d-first))
 
       ends : stepped g (next g x c) d ≡ stepped g (next g x d) c
       ends = made g (next g x c) d (both .then-d) ∙ same ∙ sym (made g (next g x d) c (both .then-c))
@@ -82,9 +70,8 @@ module _ (g : Gate) (x : State) where
   module _ (c : Step) (e : Accepted g x c) (room : ℕ) where
     -- the files are those from before
     undone-files : (i : ℕ) → i < g .files → filesAfter (next g x c .bundle) (c .file) (fileAt (x .bundle) (c .file)) i ≡ fileAt (x .bundle) i
-    unfolding undoing
-    undone-files i l =
-        files-then c (undoing x c room) e i l ∙ second-counts (fileAt (x .bundle)) (c .file) (c .new) (fileAt (x .bundle) (c .file)) i ∙ put-back (fileAt (x .bundle)) (c .file) (c .new) i
+    unfolding filesAfter
+    undone-files = files-back g (fileAt (x .bundle)) (c .file) (c .new) (fileAt (next g x c .bundle)) (files-left c e)
 
     undone-length : bundleLength (g .files) (filesAfter (next g x c .bundle) (c .file) (fileAt (x .bundle) (c .file))) ≡ length (x .bundle)
     undone-length =
@@ -116,8 +103,8 @@ module _ (g : Gate) (x : State) where
 
     -- the board in full, whatever was handed in
     pub board-undone : next g (next g x c) (undoing x c room) .marks ≡ changedMarks g (c .file) (fileAt (x .bundle)) (x .marks)
-    unfolding undoing
-    board-undone = marks-then c (undoing x c room) e ∙ marks-undone g (fileAt (x .bundle)) (c .file) (c .new) (x .marks)
+    unfolding next undoing filesAfter
+    board-undone = marks-back g (fileAt (x .bundle)) (c .file) (c .new) (fileAt (next g x c .bundle)) (files-left c e) (x .marks)
 
     -- everything comes back exactly if the marks that read the file were right
     pub undo : Bytes (x .bundle) → Long (marksOf g) (x .marks) → RightFor g (c .file) (fileAt (x .bundle)) (x .marks) → next g (next g x c) (undoing x c room) ≡ x

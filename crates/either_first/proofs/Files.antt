@@ -119,3 +119,30 @@ module _ (g : Gate) where
   -- the marks of the files are such
   pub full-right : (files : ℕ → File) (k : ℕ) → RightFor g k files (fullMarks g files)
   full-right files k = record { right = λ m l e. full-mark g files m l }
+
+-- ---- the same where the files are read from what a change left behind: `after` is how they stand there, as far as the set has
+-- files, after a change of file i to f
+module _ (g : Gate) (files : ℕ → File) (i : ℕ) (f : File) (after : ℕ → File) (left : (k : ℕ) → k < g .files → after k ≡ changed files i f k) where
+  pub files-then : (j : ℕ) (h : File) (k : ℕ) → k < g .files → changed after j h k ≡ changed (changed files i f) j h k
+  unfolding changed
+  files-then j h k l = ap (cond (eqb k j) h) (left k l)
+
+  pub marks-then : (j : ℕ) (h : File) (handed : Marks) → changedMarks g j (changed after j h) handed ≡ changedMarks g j (changed (changed files i f) j h) handed
+  marks-then j h handed = changed-below g j (changed after j h) (changed (changed files i f) j h) handed (files-then j h)
+
+  -- the change undone
+  pub files-back : (k : ℕ) → k < g .files → changed after i (files i) k ≡ files k
+  files-back k l = files-then i (files i) k l ∙ second-counts files i f (files i) k ∙ put-back files i f k
+
+  pub marks-back : (handed : Marks) → changedMarks g i (changed after i (files i)) (changedMarks g i (changed files i f) handed) ≡ changedMarks g i files handed
+  marks-back handed = marks-then i (files i) (changedMarks g i (changed files i f) handed) ∙ marks-undone g files i f handed
+
+-- two changes, one behind the other in either order
+module _ (g : Gate) (files : ℕ → File) (i j : ℕ) (f h : File) (apart : i ≡ j → ⊥) (after other : ℕ → File) (left : (k : ℕ) → k < g .files → after k ≡ changed files i f k) (too : (k : ℕ) → k < g .files → other k ≡ changed files j h k) where
+  pub files-either : (k : ℕ) → k < g .files → changed after j h k ≡ changed other i f k
+  files-either k l = files-then g files i f after left j h k l ∙ files-commute files i j f h apart k ∙ sym (files-then g files j h other too i f k l)
+
+  pub marks-either : (handed : Marks) → changedMarks g j (changed after j h) (changedMarks g i (changed files i f) handed) ≡ changedMarks g i (changed other i f) (changedMarks g j (changed files j h) handed)
+  marks-either handed =
+      marks-then g files i f after left j h (changedMarks g i (changed files i f) handed) ∙ marks-commute g files i j f h apart handed
+      ∙ sym (marks-then g files j h other too i f (changedMarks g j (changed files j h) handed))

@@ -1,0 +1,1 @@
+// What the calls over a drawer answer, for any gate. No code.

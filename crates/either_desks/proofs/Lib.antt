@@ -1,0 +1,4 @@
+pub mod Desk
+pub mod Desks
+pub mod Undo
+pub mod Cases
