@@ -547,7 +547,7 @@ static void field_names(void) {
 }
 
 static void words(void) {
-    static const uint32_t refusals[] = {1, 2, 3, 4, 5, 6, 7, 14, 100, 101, 102, 103};
+    static const uint32_t refusals[] = {1, 2, 3, 4, 5, 6, 7, 9, 14, 100, 101, 102, 103};
     expect_text("mark 0 is about", "FileType.txt: the file itself", knotsaddle_about_mark(KNOTSADDLE_SCHEDULE, 0));
     expect_text("mark 32 is about", "Resources: no two records with the same ID", knotsaddle_about_mark(KNOTSADDLE_SCHEDULE, 32));
     expect_text("mark 80 is about", "TaskOutlineStructure: the parent is a SUMMARY task in Tasks",
