@@ -16,20 +16,22 @@ use Rattle.gate_calls.specs.Calls.{changedMarks}
 use Rattle.drawer_held.specs.Drawer.{drawerFault, drawerAfter, drawerMade}
 use Rattle.drawer_held.proofs.Laws.{change-none, change-fine, held-fine}
 use Rattle.drawer_meaning.proofs.Kept.{after-length, layout-kept, files-after}
-use Rattle.drawer_meaning.proofs.Room.{files-fit}
+use Rattle.drawer_bundles.proofs.Room.{bundle-fits}
+use Rattle.drawer_calls.specs.Sequence.{DrawerStep, DrawerState, stepped}
+use Rattle.drawer_calls.proofs.Lent.{changed-well}
 use Rattle.either_first.specs.Undone.{RightFor}
 use Rattle.either_first.proofs.Files.{files-back, marks-back, files-either, marks-either, marks-restored, restored-right, full-right}
-use Rattle.either_drawer.specs.Either.{Step, Held, Accepted, stepped, BothOrders, Same, undoing}
+use Rattle.either_drawer.specs.Either.{Accepted, BothOrders, Same, undoing}
 
 -- ---- an accepted change
-module _ (g : Gate) (x : Held) (c : Step) (accepted : Accepted g x c) where
+module _ (g : Gate) (x : DrawerState) (c : DrawerStep) (accepted : Accepted g x c) where
   drawer-is : stepped g x c .drawer ≡ drawerAfter (g .files) (x .drawer) (c .file) (c .new)
   unfolding Accepted stepped drawerMade
   drawer-is = rw (eq-eqb _ 0 accepted)
 
   board-is : stepped g x c .marks ≡ changedMarks g (c .file) (changed (fileAt (x .drawer)) (c .file) (c .new)) (x .marks)
   unfolding Accepted stepped filesAfter
-  board-is = rw (eq-eqb _ 0 accepted)
+  board-is = ap (λ r. r .marks) (changed-well g (x .drawer) (c .file) (c .new) (x .marks) accepted)
 
   -- the files at hand then
   files-left : (i : ℕ) → i < g .files → fileAt (stepped g x c .drawer) i ≡ changed (fileAt (x .drawer)) (c .file) (c .new) i
@@ -37,7 +39,7 @@ module _ (g : Gate) (x : Held) (c : Step) (accepted : Accepted g x c) where
   files-left i l = ap (λ d. fileAt d i) drawer-is ∙ files-after (g .files) (x .drawer) (c .file) (c .new) accepted i l
 
 -- ---- two changes of two files, accepted in both orders, from any handed board: one set and one board
-module _ (g : Gate) (x : Held) (c d : Step) (apart : c .file ≡ d .file → ⊥) (both : BothOrders g x c d) where
+module _ (g : Gate) (x : DrawerState) (c d : DrawerStep) (apart : c .file ≡ d .file → ⊥) (both : BothOrders g x c d) where
   pub either-first : Same g (stepped g (stepped g x c) d) (stepped g (stepped g x d) c)
   either-first =
       record {
@@ -53,7 +55,7 @@ module _ (g : Gate) (x : Held) (c d : Step) (apart : c .file ≡ d .file → ⊥
   bundle-either = bundle-same (g .files) _ _ (either-first .files)
 
 -- ---- a change undone
-module _ (g : Gate) (x : Held) (c : Step) (accepted : Accepted g x c) where
+module _ (g : Gate) (x : DrawerState) (c : DrawerStep) (accepted : Accepted g x c) where
   abbrev now : List ℕ
   now = stepped g x c .drawer
 
@@ -66,7 +68,7 @@ module _ (g : Gate) (x : Held) (c : Step) (accepted : Accepted g x c) where
   undo-accepted =
       let old = change-none (g .files) (x .drawer) (c .file) (c .new) accepted in
       let long : length now ≡ length (x .drawer) = ap length (drawer-is g x c accepted) ∙ after-length (g .files) (x .drawer) (c .file) (c .new) accepted in
-      sym (change-fine (g .files) now (c .file) (held-fine (g .files) now (c .file) (sym fine) refl (old .1)) (fileAt (x .drawer) (c .file)) refl (sym (length-same (g .files) _ _ back)) (rw long (files-fit (g .files) (x .drawer) (old .0))))
+      sym (change-fine (g .files) now (c .file) (held-fine (g .files) now (c .file) (sym fine) refl (old .1)) (fileAt (x .drawer) (c .file)) refl (sym (length-same (g .files) _ _ back)) (rw long (bundle-fits (g .files) (x .drawer) (old .0))))
     where
       fine : drawerFault (g .files) now ≡ 0
       fine = ap (drawerFault (g .files)) (drawer-is g x c accepted) ∙ layout-kept (g .files) (x .drawer) (c .file) (c .new) accepted
