@@ -43,9 +43,10 @@ impl Quarter {
         Quarter { totals: [0; TOTALS], sets: 0, left: [false; SETS] }
     }
 
-    /// How many places are listed as left out.
+    /// How many of the sets that came are left out. A place that no set has
+    /// taken yet says nothing, whatever its flag is.
     pub fn left_out(&self) -> usize {
-        self.left.iter().filter(|left| **left).count()
+        self.left.iter().take(self.sets).filter(|left| **left).count()
     }
 
     /// Whether a handed total is beyond what so many sets can come to.
