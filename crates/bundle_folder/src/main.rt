@@ -2,6 +2,7 @@
 use folder::argument;
 use folder::gather;
 use folder::write_opened;
+use gate_lists::Which;
 use libc::STDOUT_FILENO;
 use parts::part;
 use program_io::complain;
@@ -31,7 +32,7 @@ fn bundle_folder(file: &mut [u8], bundle: &mut [u8], other: &mut [u8]) {
     if length == 0 {
         return;
     }
-    let n = gather(&mut path, folder, file, bundle, other);
+    let n = gather(Which::Schedule, &mut path, folder, file, bundle, other);
     if n == 0 {
         return;
     }

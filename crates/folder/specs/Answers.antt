@@ -14,6 +14,6 @@ Within (Bytes n) most = n ≤ most
 Within Nothing most = Unit {0}
 Within Failed most = Unit {0}
 
--- no bundle, 0, or one of that length at the front of a buffer that is not refused
-abbrev pub Bundled : ℕ → List ℕ → Type 0
-Bundled r s = (r ≡ 0) ⊎ ((r ≤ length s) × (bundleFault 20 (take r s) ≡ 0))
+-- no bundle, 0, or one of n files and of that length at the front of a buffer that is not refused
+abbrev pub Bundled : ℕ → ℕ → List ℕ → Type 0
+Bundled n r s = (r ≡ 0) ⊎ ((r ≤ length s) × (bundleFault n (take r s) ≡ 0))

@@ -1,16 +1,19 @@
-// What the programs over a folder share: its files by their names, read into a bundle, and a file
-// written. No contract can say what comes from outside or goes there. What is promised is how many bytes
+// What the programs over a folder share: the files of a gate's set by their names, read into a bundle,
+// and a file written. No contract can say what comes from outside or goes there. What is promised is how many bytes
 // there can be, and that a bundle which is made is one that is not refused. Where something is wrong, they
 // say on standard error what it is and what to do.
 ghost use mathlib.Core.Path.{_≡_};
 ghost use Prim.Native.Nat.{_≤_};
 ghost use lib.ListN.{length};
-ghost use Rattle.bundle_bytes.specs.Pieces.{written};
-ghost use Rattle.file_names.specs.Names.{tailOf, pathLength};
+ghost use Rattle.gate_lists.specs.Which.{gateCalled};
 ghost use Rattle.folder.specs.Answers.{Within, Bundled};
+ghost use Rattle.folder.specs.Path.{pathPut, pathLength};
 use bundle::make_bundle;
 use bundle_bytes::put_part;
-use file_names::put_path;
+use gate_lists::Which;
+use gate_lists::file_count;
+use gate_names::put_file_of;
+use output::put_byte;
 use parts::part;
 use program_io::Input;
 use program_io::complain;
@@ -89,17 +92,19 @@ fn complain_long(path: &[u8], folder: usize) {
     );
 }
 
-// The length of file k's path in the folder that the first `folder` bytes of `path` name, which it puts
-// there; 0, which it says, where it has no room.
-pub fn path_of(path: &mut [u8], folder: usize, k: usize) -> usize
-    ensures { λ r. ⌜ r ≡ pathLength (now (path .entry)) folder k ⌝ }
-    ensures { λ _. ⌜ now (path .exit) ≡ written (now (path .entry)) folder (tailOf k) ⌝ }
+// The length of the path of the gate's file k in the folder that the first `folder` bytes of `path` name,
+// which it puts there; 0, which it says, where it has no room.
+pub fn path_of(which: Which, path: &mut [u8], folder: usize, k: usize) -> usize
+    ensures { λ r. ⌜ r ≡ pathLength which (now (path .entry)) folder k ⌝ }
+    ensures { λ _. ⌜ now (path .exit) ≡ pathPut which (now (path .entry)) folder k .bytes ⌝ }
 {
-    let end = put_path(path, folder, k);
-    if end == 0 {
-        complain_long(path, folder);
+    let name = put_byte(path, folder, b'/');
+    let end = put_file_of(which, path, name, k);
+    if end < path.len() {
+        return end;
     }
-    end
+    complain_long(path, folder);
+    0
 }
 
 // Whether they name a folder that can be read; says so where they do not.
@@ -127,6 +132,7 @@ fn is_folder(path: &mut [u8], folder: usize) -> bool {
 
 // Changes file k of a bundle, and answers the new bundle's length; 0, which it says, where it is refused.
 fn change<'a>(
+    which: Which,
     folder: &[u8],
     bundle: &'a [u8],
     k: usize,
@@ -134,13 +140,13 @@ fn change<'a>(
     new: &'a [u8],
     out: &mut [u8],
 ) -> usize
-    ensures { λ r. ⌜ Bundled r (now (out .exit)) ⌝ }
+    ensures { λ r. ⌜ Bundled (gateCalled which .files) r (now (out .exit)) ⌝ }
 {
-    let made = make_bundle(bundle, 20, k, present, new, out);
+    let made = make_bundle(bundle, file_count(which), k, present, new, out);
     if made.refusal != 0 {
         complain(
             folder,
-            b"its files come to more than 1,048,576 bytes with a header of 164; shorten them",
+            b"its files come to more than 1,048,576 bytes with the header; shorten them",
         );
         return 0;
     }
@@ -150,6 +156,7 @@ fn change<'a>(
 // Puts file k of the folder into the bundle of the first n bytes of one buffer, with the new bundle at
 // the front of the other; its length, or 0 where that fails.
 fn put_file(
+    which: Which,
     path: &mut [u8],
     folder: usize,
     k: usize,
@@ -158,9 +165,9 @@ fn put_file(
     n: usize,
     new: &mut [u8],
 ) -> usize
-    ensures { λ r. ⌜ Bundled r (now (new .exit)) ⌝ }
+    ensures { λ r. ⌜ Bundled (gateCalled which .files) r (now (new .exit)) ⌝ }
 {
-    let end = path_of(path, folder, k);
+    let end = path_of(which, path, folder, k);
     if end == 0 {
         return 0;
     }
@@ -174,6 +181,7 @@ fn put_file(
                 return 0;
             }
             change(
+                which,
                 part(path, 0, folder),
                 part(old, 0, n),
                 k,
@@ -183,6 +191,7 @@ fn put_file(
             )
         }
         Found::Nothing => change(
+            which,
             part(path, 0, folder),
             part(old, 0, n),
             k,
@@ -200,32 +209,42 @@ fn put_file(
     }
 }
 
+// Puts the bundle with none of the gate's files at the front of a buffer, and answers its length.
+fn put_none(which: Which, bundle: &mut [u8]) -> usize {
+    let files = file_count(which);
+    let n = 4 + 8 * files;
+    let mut none = [0u8; 260];
+    none[0] = files as u8;
+    put_part(bundle, 0, part(&none, 0, n));
+    n
+}
+
 // Puts the bundle of a folder's files at the front of `bundle`, and answers its length; 0, which it says,
-// where there is none. The folder's name is the first `folder` bytes of `path`; a file that is missing
-// is omitted. The bundle is made file by file, in `bundle` and `other` by turns, from the one with none.
+// where there is none. The files are those of the gate, and the folder's name is the first `folder` bytes
+// of `path`; a file that is missing is omitted. The bundle is made file by file, in `bundle` and `other`
+// by turns, from the one with none; each gate has an even number of files.
 pub fn gather(
+    which: Which,
     path: &mut [u8],
     folder: usize,
     file: &mut [u8],
     bundle: &mut [u8],
     other: &mut [u8],
 ) -> usize
-    ensures { λ r. ⌜ Bundled r (now (bundle .exit)) ⌝ }
+    ensures { λ r. ⌜ Bundled (gateCalled which .files) r (now (bundle .exit)) ⌝ }
 {
     if !is_folder(path, folder) {
         return 0;
     }
-    let mut none = [0u8; 164];
-    none[0] = 20;
-    put_part(bundle, 0, &none);
-    let mut n = 164;
+    let files = file_count(which);
+    let mut n = put_none(which, bundle);
     let mut k = 0;
-    while k < 20 {
-        let half = put_file(path, folder, k, file, bundle, n, other);
+    while k < files {
+        let half = put_file(which, path, folder, k, file, bundle, n, other);
         if half == 0 {
             return 0;
         }
-        n = put_file(path, folder, k + 1, file, other, half, bundle);
+        n = put_file(which, path, folder, k + 1, file, other, half, bundle);
         if n == 0 {
             return 0;
         }

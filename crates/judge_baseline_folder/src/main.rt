@@ -4,6 +4,7 @@ use folder::argument;
 use folder::gather;
 use gate_baseline::judge;
 use gate_baseline::report_board;
+use gate_lists::Which;
 use parts::part;
 use program_io::complain;
 use program_io::print;
@@ -23,7 +24,7 @@ fn judge_folder(file: &mut [u8], bundle: &mut [u8], other: &mut [u8]) {
     if folder == 0 {
         return;
     }
-    let n = gather(&mut path, folder, file, bundle, other);
+    let n = gather(Which::Baseline, &mut path, folder, file, bundle, other);
     if n == 0 {
         return;
     }

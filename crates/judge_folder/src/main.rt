@@ -3,6 +3,7 @@ use board::report_board;
 use folder::argument;
 use folder::gather;
 use gate::judge;
+use gate_lists::Which;
 use parts::part;
 use program_io::complain;
 use program_io::print;
@@ -22,7 +23,7 @@ fn judge_folder(file: &mut [u8], bundle: &mut [u8], other: &mut [u8]) {
     if folder == 0 {
         return;
     }
-    let n = gather(&mut path, folder, file, bundle, other);
+    let n = gather(Which::Schedule, &mut path, folder, file, bundle, other);
     if n == 0 {
         return;
     }

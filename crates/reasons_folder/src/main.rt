@@ -1,10 +1,11 @@
-// Judges the set of files in a folder, by document 01's gate or with --baseline by the baseline profile,
-// and prints its marks as the program `reasons` does, but for marks that aren't judged: these are told
-// file by file.
-use check::same;
+// Judges the set of files in a folder, by document 01's gate, with --baseline by the baseline profile or
+// with --contract by the contract side's gate, and prints its marks as the program `reasons` does, but for
+// marks that aren't judged: these are told file by file.
 use folder::argument;
 use folder::gather;
 use gate_lists::Which;
+use gate_option::Named;
+use gate_option::gate_named;
 use parts::part;
 use program_io::complain;
 use program_io::print;
@@ -16,11 +17,11 @@ enum Asked {
     Nothing,
 }
 
-// Whether the first argument is that of the profile.
-fn is_baseline() -> bool {
+// The gate that the first argument names.
+fn first_named() -> Named {
     let mut word = [0u8; 16];
     let n = os::arg(1, &mut word);
-    same(part(&word, 0, n), b"--baseline")
+    gate_named(part(&word, 0, n))
 }
 
 fn what_is_asked() -> Asked {
@@ -34,13 +35,10 @@ fn what_is_asked() -> Asked {
     if count != 3 {
         return Asked::Nothing;
     }
-    if is_baseline() {
-        return Asked::Of {
-            which: Which::Baseline,
-            folder: 2,
-        };
+    match first_named() {
+        Named::Gate { which } => Asked::Of { which, folder: 2 },
+        Named::Nothing => Asked::Nothing,
     }
-    Asked::Nothing
 }
 
 fn print_reasons(which: Which, bundle: &[u8], work: &mut [u32], text: &mut [u8]) {
@@ -64,7 +62,7 @@ fn judge_folder(
     if folder == 0 {
         return;
     }
-    let n = gather(&mut path, folder, file, bundle, other);
+    let n = gather(which, &mut path, folder, file, bundle, other);
     if n == 0 {
         return;
     }
@@ -90,7 +88,7 @@ fn judge_with_memory(which: Which, named: usize) {
 }
 
 fn usage() {
-    complain(b"usage", b"reasons_folder [--baseline] FOLDER");
+    complain(b"usage", b"reasons_folder [--baseline | --contract] FOLDER");
     complain(
         b"FOLDER",
         b"holds the files of the set under their own names, FileType.txt and so on; one that is missing is omitted",

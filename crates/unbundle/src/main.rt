@@ -9,6 +9,7 @@ use folder::argument;
 use folder::path_of;
 use folder::read_named;
 use folder::write_opened;
+use gate_lists::Which;
 use parts::part;
 use program_io::complain;
 use program_io::print;
@@ -62,7 +63,7 @@ fn is_ready(path: &mut [u8], folder: usize) -> bool {
     }
     let mut k = 0;
     while k < 20 {
-        let end = path_of(path, folder, k);
+        let end = path_of(Which::Schedule, path, folder, k);
         if end == 0 {
             return false;
         }
@@ -89,7 +90,7 @@ fn write_file(name: &[u8], bytes: &[u8]) -> bool {
 fn write_files(path: &mut [u8], folder: usize, bundle: &[u8]) {
     let mut k = 0;
     while k < 20 {
-        let end = path_of(path, folder, k);
+        let end = path_of(Which::Schedule, path, folder, k);
         match file_state(bundle, 20, k) {
             FileState::Present => {
                 if !write_file(part(path, 0, end), file_part(bundle, 20, k)) {

@@ -8,6 +8,9 @@ use borrow.Author.Needs.{needs}
 use Rattle.folder.proofs.change.Statement.{statement}
 use Rattle.folder.proofs.change.Tie as tie
 
+file-count-requires : tie.Need-file-count-requires
+file-count-requires c κs = search needs
+
 make-bundle-requires : tie.Need-make-bundle-requires
 make-bundle-requires c κs = search needs
 
@@ -28,12 +31,15 @@ same-length-2 c = search needs
 
 returns-2 : tie.Need-returns-2
 returns-2 c =
-    bundle-made (now (c .before .before .before .before .before .before .before .before .before .before .args .bundle)) (c .before .before .before .before .before .before .before .before .before .before .args .k) (newFile (c .before .before .before .before .before .before .before .before .before .before .args .present) (now (c .before .before .before .before .before .before .before .before .before .before .args .new))) (now (c .before .before .before .before .before .before .before .before .before .before .args .out)) (c .before .before .before .before .make-bundle .ensures .0) (c .before .before .before .before .make-bundle .ensures .1) (c .if1 .left)
+    let a = c .before .before .before .before .before .before .before .before .before .before .before .args in
+    let made = c .before .before .before .before .make-bundle .ensures in
+    bundle-made _ (now (a .bundle)) (a .k) (newFile (a .present) (now (a .new))) (now (a .out)) (c .before .before .before .before .before .before .file-count .ensures .0) (made .0) (made .1) (c .if1 .left)
 
 pub change-spec : {M : Type 1} → statement M
 change-spec =
     tie.close
     (tie.spec
+    file-count-requires
     make-bundle-requires
     slice-aggregate-complain
     complain-requires

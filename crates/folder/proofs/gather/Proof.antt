@@ -4,17 +4,19 @@ use mathlib.Core.Path.{_≡_, refl}
 use mathlib.Core.Logic.{_⊎_, inl, inr, ⊎-elim}
 use native.Mathlib.Omega.{arith}
 use lib.ListN.{length}
+use Rattle.gate_lists.specs.Which.{gateCalled}
 use Rattle.folder.specs.Answers.{Bundled}
+use Rattle.folder.proofs.Laws.{some-files}
 use borrow.Author.Needs.{needs}
 use Rattle.folder.proofs.gather.Statement.{statement}
 use Rattle.folder.proofs.gather.Tie as tie
 
 abbrev Inv-loop : tie.InvT-loop
-Inv-loop path₀ folder file₀ bundle₀ other₀ n₀ k₀ path file bundle other n k =
-    (length path ≡ length path₀) × (length file ≡ length file₀) × (length bundle ≡ length bundle₀) × (length other ≡ length other₀) × ((k ≡ 0) ⊎ Bundled n bundle)
+Inv-loop which path₀ folder file₀ bundle₀ other₀ files n₀ k₀ path file bundle other n k =
+    (length path ≡ length path₀) × (length file ≡ length file₀) × (length bundle ≡ length bundle₀) × (length other ≡ length other₀) × ((k ≡ 0) ⊎ Bundled (gateCalled which .files) n bundle)
 
 abbrev μ-loop : tie.MeasureT-loop
-μ-loop path₀ folder file₀ bundle₀ other₀ n₀ k₀ path file bundle other n k = 20 - k
+μ-loop which path₀ folder file₀ bundle₀ other₀ files n₀ k₀ path file bundle other n k = files - k
 
 is-folder-requires : tie.Need-is-folder-requires Inv-loop μ-loop
 is-folder-requires c κs = search needs
@@ -25,14 +27,11 @@ same-length c = omega arith
 returns : tie.Need-returns Inv-loop μ-loop
 returns c = inl refl
 
-array-write-none : tie.Need-array-write-none Inv-loop μ-loop
-array-write-none c = omega arith
+file-count-requires : tie.Need-file-count-requires Inv-loop μ-loop
+file-count-requires c κs = search needs
 
-slice-aggregate-put-part : tie.Need-slice-aggregate-put-part Inv-loop μ-loop
-slice-aggregate-put-part c = omega arith
-
-put-part-requires : tie.Need-put-part-requires Inv-loop μ-loop
-put-part-requires c κs = search needs
+put-none-requires : tie.Need-put-none-requires Inv-loop μ-loop
+put-none-requires c κs = search needs
 
 loop-holds : tie.Need-loop-holds Inv-loop μ-loop
 loop-holds c = (omega arith, omega arith, omega arith, omega arith, inl refl)
@@ -98,7 +97,9 @@ same-length-13 : tie.Need-same-length-13 Inv-loop μ-loop
 same-length-13 c = omega arith
 
 returns-4 : tie.Need-returns-4 Inv-loop μ-loop
-returns-4 c = ⊎-elim (λ e. absurd (omega arith)) (λ b. b) (c .before .loop .inv .4)
+returns-4 c =
+    let some = some-files (c .before .before .before .before .before .before .before .before .before .before .before .before .before .before .before .before .args .which) in
+    ⊎-elim (λ e. absurd (omega (arith, some, c .before .before .before .before .before .before .file-count .ensures))) (λ b. b) (c .before .loop .inv .4)
 
 pub gather-spec : {M : Type 1} → statement M
 gather-spec =
@@ -109,9 +110,8 @@ gather-spec =
     is-folder-requires
     same-length
     returns
-    array-write-none
-    slice-aggregate-put-part
-    put-part-requires
+    file-count-requires
+    put-none-requires
     loop-holds
     put-file-requires
     same-length-2

@@ -20,7 +20,7 @@ same-length c = search needs
 
 returns : tie.Need-returns
 unfolding codes
-returns c = too-long _ _ (c .before .before .before .before .before .if1 .taken) (c .before .before .put-counted .ensures)
+returns c = too-long _ _ _ (c .before .before .before .before .before .if1 .taken) (c .before .before .put-counted .ensures)
 
 slice-aggregate-reasons : tie.Need-slice-aggregate-reasons
 slice-aggregate-reasons c = sym (length-replicate {A = ℕ} 794702 0)
@@ -35,7 +35,7 @@ returns-2 : tie.Need-returns-2
 returns-2 c =
     let a = c .before .before .before .before .before .before .before .before .before .args in
     let done = c .before .before .before .reasons .ensures in
-    text-read (now (a .bundle)) (now (a .out)) _ (c .before .before .before .before .before .before .if1 .left) (length-replicate {A = ℕ} 794702 0) (done .0) (done .1)
+    text-read (a .which) (now (a .bundle)) (now (a .out)) _ (c .before .before .before .before .before .before .if1 .left) (length-replicate {A = ℕ} 794702 0) (done .0) (done .1)
 
 pub put-text-spec : {M : Type 1} → statement M
 put-text-spec =

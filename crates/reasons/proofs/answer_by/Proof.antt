@@ -1,9 +1,9 @@
--- `reasons::main` is safe and ends. The lengths of its large arrays are known by a law, not counted.
+-- `reasons::answer_by` is safe and ends. The lengths of its large arrays are known by a law, not counted.
 use Prim.Native.Nat.{ℕ}
 use mathlib.Core.Path.{sym}
 use lib.ListN.{length-replicate}
-use Rattle.reasons.proofs.main.Statement.{statement}
-use Rattle.reasons.proofs.main.Tie as tie
+use Rattle.reasons.proofs.answer_by.Statement.{statement}
+use Rattle.reasons.proofs.answer_by.Tie as tie
 
 slice-aggregate-answer : tie.Need-slice-aggregate-answer
 slice-aggregate-answer c = sym (length-replicate {A = ℕ} 65537 0)
@@ -17,8 +17,8 @@ answer-requires c κs = tt
 returns : tie.Need-returns
 returns c = tt
 
-pub main-spec : {M : Type 1} → statement M
-main-spec =
+pub answer-by-spec : {M : Type 1} → statement M
+answer-by-spec =
     tie.close
     (tie.spec
     slice-aggregate-answer

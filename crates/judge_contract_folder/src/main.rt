@@ -1,0 +1,51 @@
+// Judges the contract side's files in a folder, and prints their marks as the program `judge_contract`
+// does.
+use folder::argument;
+use folder::gather;
+use gate_contract::judge;
+use gate_contract::report_board;
+use gate_lists::Which;
+use parts::part;
+use program_io::complain;
+use program_io::print;
+
+fn print_judgement(bundle: &[u8]) {
+    let mut text = [0u8; 2176];
+    let verdict = judge(bundle);
+    let board = verdict.board;
+    let n = report_board(verdict.refusal, board, &mut text);
+    print(part(&text, 0, n));
+}
+
+// Judges the folder of the first argument, with memory for a file and for two bundles.
+fn judge_folder(file: &mut [u8], bundle: &mut [u8], other: &mut [u8]) {
+    let mut path = [0u8; 4096];
+    let folder = argument(1, &mut path);
+    if folder == 0 {
+        return;
+    }
+    let n = gather(Which::Contract, &mut path, folder, file, bundle, other);
+    if n == 0 {
+        return;
+    }
+    print_judgement(part(bundle, 0, n));
+}
+
+fn usage() {
+    complain(b"usage", b"judge_contract_folder FOLDER");
+    complain(
+        b"FOLDER",
+        b"holds Subcontractors.json, WBS.json, OBS.json and ControlAccounts.json; one that is missing is omitted",
+    );
+}
+
+fn main() {
+    if os::arg_count() != 2 {
+        usage();
+        return;
+    }
+    let mut file = [0u8; 1048577];
+    let mut bundle = [0u8; 1048577];
+    let mut other = [0u8; 1048577];
+    judge_folder(&mut file, &mut bundle, &mut other);
+}
