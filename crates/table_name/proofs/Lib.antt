@@ -1,3 +1,4 @@
 pub mod Opens
 pub mod Laws
+pub mod Words
 pub mod FaultKinds
