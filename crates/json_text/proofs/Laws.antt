@@ -171,7 +171,7 @@ module _ (ty : TextType) (s : List ℕ) (at : ℕ) (w : Wrong) where
       let next : (i + 1) + suc n ≡ i + suc (suc n) = omega arith in
       rw next at (along-all n (i + 1) false (along-one i edge left (g i (omega arith) (omega arith))) (λ k l m. g k (omega arith) (omega arith)))
 
-  along-run : (i j : ℕ) (edge : Bool) → Left ty s at w i edge → Run s i j → Left ty s at w j (edgeBehind edge i j)
+  pub along-run : (i j : ℕ) (edge : Bool) → Left ty s at w i edge → Run s i j → Left ty s at w j (edgeBehind edge i j)
   unfolding edgeBehind
   along-run i j edge left run = go (ltb i j) refl
     where
