@@ -90,6 +90,9 @@ module _ (s : List ℕ) (at : ℕ) (rows names : List ℕ) (count index end : �
   unfolding nameAt namedAt
   named whole isIndex = rw (whole, nameAt, ← isIndex, fields-length rows names count 0) isKnown
 
+  pub name-decoded : textAt s at ≡ Whole end → (word : List ℕ) → word ≡ charsAt s at → index ≡ indexOf word (fieldsFrom rows names count 0) → n ≡ nameAt (fieldsFrom rows names count 0) s at
+  name-decoded whole word chars isIndex = named whole (isIndex ∙ ap (λ cs. indexOf cs (fieldsFrom rows names count 0)) chars)
+
   pub name-read : (t : TextRead) → t ≡ textRead Text s at → t .reading ≡ Whole end → index ≡ indexOf (charsAt s at) (fieldsFrom rows names count 0) → n ≡ nameAt (fieldsFrom rows names count 0) s at
   unfolding textRead
   name-read t isText whole isIndex = named (sym (ap (λ (x : TextRead). x .reading) isText) ∙ whole) isIndex
@@ -99,4 +102,4 @@ module _ (s : List ℕ) (at : ℕ) (rows names : List ℕ) (count index end : �
   name-plain j is h isEnd word isWord isIndex =
       let around = plain-inside s at j is h in
       let chars : word ≡ charsAt s at = isWord ∙ part-is s (at + 1) j (omega (arith, around .0)) (omega (arith, around .1)) ∙ sym (plain-chars s at j is h) in
-      named (ap (λ (x : TextRead). x .reading) (plain-text s at j is h) ∙ ap Whole (sym isEnd)) (isIndex ∙ ap (λ cs. indexOf cs (fieldsFrom rows names count 0)) chars)
+      name-decoded (ap (λ (x : TextRead). x .reading) (plain-text s at j is h) ∙ ap Whole (sym isEnd)) word chars isIndex

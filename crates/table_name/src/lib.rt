@@ -13,6 +13,8 @@ ghost use Rattle.table_name.specs.Name.{indexOf, namedAt, nameAt, colonA
 use json_bytes::Reading;
 use json_bytes::byte_at;
 use json_bytes::skip_spaces;
+use json_chars::Step;
+use json_chars::step_at;
 use json_same::Case;
 use json_same::is_plain;
 use json_same::text_is;
@@ -152,8 +154,57 @@ fn known(index: usize, count: usize, at: usize, end: usize) -> NameRead
     }
 }
 
-// The name whose opening quote stands at `at`, read whole and then looked for. One that has no escape and
-// no letter beyond ASCII is looked for by its bytes.
+// The name whose opening quote stands at `at`, read whole and then looked for.
+fn read_name(s: &[u8], at: usize, rows: &[u32], names: &[u8], count: usize) -> NameRead
+    ensures { λ r. ⌜ r ≡ nameAt (fieldsFrom (now (rows .entry)) (now (names .entry)) count 0) (now (s .entry)) at ⌝ }
+{
+    let reading = read_text(s, at, TextType::Text).reading;
+    match reading {
+        Reading::Whole { end } => known(index_of(s, at, rows, names, count), count, at, end),
+        Reading::Fault { kind, place } => NameRead::Unknown { kind, place },
+    }
+}
+
+// The same, its characters put down one behind the other and looked for as a word. One that has none, or more
+// than any field's name has, or a letter beyond ASCII, or a fault, is read as it stands.
+fn decoded_name(s: &[u8], at: usize, rows: &[u32], names: &[u8], count: usize) -> NameRead
+    ensures { λ r. ⌜ r ≡ nameAt (fieldsFrom (now (rows .entry)) (now (names .entry)) count 0) (now (s .entry)) at ⌝ }
+{
+    if byte_at(s, at) != b'"' {
+        return read_name(s, at, rows, names, count);
+    }
+    let mut word = [0u8; 32];
+    let mut n = 0;
+    let mut i = at + 1;
+    loop {
+        match step_at(s, i) {
+            Step::Char { code, next } => {
+                if 32 <= n {
+                    return read_name(s, at, rows, names, count);
+                }
+                if 128 <= code {
+                    return read_name(s, at, rows, names, count);
+                }
+                word[n] = code as u8;
+                n += 1;
+                i = next;
+            }
+            Step::Close => {
+                if n == 0 {
+                    return read_name(s, at, rows, names, count);
+                }
+                let index = word_index(&word[..n], rows, names, count);
+                return known(index, count, at, i + 1);
+            }
+            Step::Bad { kind: _, place: _ } => {
+                return read_name(s, at, rows, names, count);
+            }
+        }
+    }
+}
+
+// The name whose opening quote stands at `at`: which field it is, or its fault. Most have no escape, and are
+// looked for by their bytes as they stand.
 pub fn name_at(s: &[u8], at: usize, rows: &[u32], names: &[u8], count: usize) -> NameRead
     ensures { λ r. ⌜ r ≡ nameAt (fieldsFrom (now (rows .entry)) (now (names .entry)) count 0) (now (s .entry)) at ⌝ }
 {
@@ -162,11 +213,7 @@ pub fn name_at(s: &[u8], at: usize, rows: &[u32], names: &[u8], count: usize) ->
         let index = word_index(part(s, at + 1, close), rows, names, count);
         return known(index, count, at, close + 1);
     }
-    let reading = read_text(s, at, TextType::Text).reading;
-    match reading {
-        Reading::Whole { end } => known(index_of(s, at, rows, names, count), count, at, end),
-        Reading::Fault { kind, place } => NameRead::Unknown { kind, place },
-    }
+    decoded_name(s, at, rows, names, count)
 }
 
 // The place of the value behind a name that ends at `end`.
