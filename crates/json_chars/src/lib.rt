@@ -236,6 +236,47 @@ fn joined_at(s: &[u8], i: usize, unit: u32) -> Step
     }
 }
 
+// The unit of an escape whose four digits begin with two zeros, its backslash at i; 256 for any other.
+// Most escapes are such.
+fn low_unit_at(s: &[u8], i: usize) -> u32
+    requires { ⌜ i < length (now s) ⌝ }
+    ensures { λ r. ⌜ (r < 256 → unitAt (now (s .entry)) (i + 2) ≡ Unit16.Hex r) ⌝ }
+{
+    if number_at(s, i + 2) != 48 {
+        return 256;
+    }
+    if number_at(s, i + 3) != 48 {
+        return 256;
+    }
+    let a = digit_at(s, i + 4);
+    if 16 <= a {
+        return 256;
+    }
+    let b = digit_at(s, i + 5);
+    if 16 <= b {
+        return 256;
+    }
+    a * 16 + b
+}
+
+// An escape of four digits, its backslash at i.
+fn unit_escape_at(s: &[u8], i: usize) -> Step
+    requires { ⌜ i < length (now s) ⌝ }
+    ensures { λ r. ⌜ r ≡ joined (now (s .entry)) i (unitAt (now (s .entry)) (i + 2)) ⌝ }
+{
+    let low = low_unit_at(s, i);
+    if low < 256 {
+        return Step::Char {
+            code: low,
+            next: i + 6,
+        };
+    }
+    match unit_at(s, i + 2) {
+        Unit16::Hex { unit } => joined_at(s, i, unit),
+        Unit16::NoHex { place } => Step::Bad { kind: 11, place },
+    }
+}
+
 // An escape, its backslash at i.
 fn escape_at(s: &[u8], i: usize) -> Step
     requires { ⌜ i < length (now s) ⌝ }
@@ -243,10 +284,7 @@ fn escape_at(s: &[u8], i: usize) -> Step
 {
     let letter = number_at(s, i + 1);
     if letter == 117 {
-        return match unit_at(s, i + 2) {
-            Unit16::Hex { unit } => joined_at(s, i, unit),
-            Unit16::NoHex { place } => Step::Bad { kind: 11, place },
-        };
+        return unit_escape_at(s, i);
     }
     let code = letter_escape(letter);
     if 0 < code {

@@ -1,4 +1,5 @@
 pub mod Opens
 pub mod Laws
 pub mod Collect
+pub mod Plain
 pub mod Cases

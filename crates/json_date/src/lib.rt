@@ -2,8 +2,10 @@
 // most; then the form, and then the calendar, decide.
 ghost use mathlib.Core.Path.{_≡_};
 ghost use mathlib.Core.Bool.{true};
-ghost use Prim.Native.Nat.{_+_, _<_};
-ghost use lib.ListN.{length};
+ghost use mathlib.Core.Logic.{_⊎_};
+ghost use Prim.Native.Nat.{_+_, _≤_, _<_};
+ghost use lib.ListN.{length, take, drop};
+ghost use Rattle.json_bytes.specs.Reads.{byteAt};
 ghost use Rattle.json_chars.specs.Chars.{charsAt};
 ghost use Rattle.json_date.specs.Date.{isLeap, monthDays, isDay, digitsAt, twoAt, hasForm, dateOf};
 use json_bytes::byte_at;
@@ -121,8 +123,45 @@ fn date_of(c: &[u32]) -> Date
     Date::NoDate
 }
 
-// The date of the string whose opening quote stands at a place.
-pub fn date_at(s: &[u8], at: usize) -> Date
+fn wide(b: u8) -> u32
+    ensures { λ r. ⌜ r ≡ b ⌝ }
+{
+    b as u32
+}
+
+// The ten bytes from a place on.
+fn ten_at(s: &[u8], i: usize) -> [u32; 10]
+    requires { ⌜ i + 10 ≤ length (now s) ⌝ }
+    ensures { λ r. ⌜ r ≡ take 10 (drop i (now (s .entry))) ⌝ }
+{
+    [
+        wide(s[i]),
+        wide(s[i + 1]),
+        wide(s[i + 2]),
+        wide(s[i + 3]),
+        wide(s[i + 4]),
+        wide(s[i + 5]),
+        wide(s[i + 6]),
+        wide(s[i + 7]),
+        wide(s[i + 8]),
+        wide(s[i + 9]),
+    ]
+}
+
+// The date of the string whose opening quote stands at a place, where its ten bytes are one as they stand:
+// then they are its characters. `NoDate` tells nothing.
+fn plain_date(s: &[u8], at: usize) -> Date
+    requires { ⌜ byteAt (now s) at ≡ 34 ⌝ }
+    ensures { λ r. ⌜ (r ≡ Date.NoDate) ⊎ (r ≡ dateOf (charsAt (now (s .entry)) at)) ⌝ }
+{
+    if byte_at(s, at + 11) != 34 {
+        return Date::NoDate;
+    }
+    date_of(&ten_at(s, at + 1))
+}
+
+// The date of a string, character by character.
+fn decoded_date(s: &[u8], at: usize) -> Date
     ensures { λ r. ⌜ r ≡ dateOf (charsAt (now (s .entry)) at) ⌝ }
 {
     if byte_at(s, at) != 34 {
@@ -144,5 +183,18 @@ pub fn date_at(s: &[u8], at: usize) -> Date
             Step::Close => return date_of(&c[..n]),
             Step::Bad { kind: _, place: _ } => return date_of(&c[..n]),
         }
+    }
+}
+
+// The date of the string whose opening quote stands at a place. Most are written as they are read.
+pub fn date_at(s: &[u8], at: usize) -> Date
+    ensures { λ r. ⌜ r ≡ dateOf (charsAt (now (s .entry)) at) ⌝ }
+{
+    if byte_at(s, at) != 34 {
+        return Date::NoDate;
+    }
+    match plain_date(s, at) {
+        Date::Day { year, month, day } => Date::Day { year, month, day },
+        Date::NoDate => decoded_date(s, at),
     }
 }

@@ -4,12 +4,12 @@
 use Prim.Native.Nat.{ℕ, zero, suc, _+_, _-_, _≤_, _<_}
 use mathlib.Core.Path.{_≡_, refl, sym, ap, _∙_}
 use mathlib.Core.Bool.{Bool, true, false, cond, _||_}
-use mathlib.Core.List.{List}
+use mathlib.Core.List.{List, [], _∷_}
 use native.Mathlib.Omega.{arith}
 use borrow.Author.Tests.{eq-eqb, ne-eqb, lt-ltb, le-ltb, ltb-true, ltb-false, eqb-true, eqb-false}
-use lib.ListN.{length}
+use lib.ListN.{length, drop}
 use lib.Dec.{ltb, eqb}
-use Rattle.json_bytes.specs.Reads.{byteAt, within}
+use Rattle.json_bytes.specs.Reads.{byteAt, within, leading}
 use Rattle.json_bytes.specs.declared.Reading.{Reading}
 use Rattle.json_bytes.specs.declared.Reading.the-variants.{Whole, Fault}
 use Rattle.json_chars.specs.Step.{stepAt}
@@ -18,7 +18,7 @@ use Rattle.json_chars.specs.declared.Step.the-variants.{Char, Close, Bad}
 use Rattle.json_bytes.proofs.Laws.{within-from, within-to}
 use Rattle.json_chars.proofs.Bounds.{step-good, Good}
 use Rattle.json_chars.proofs.Walk.{own-step}
-use Rattle.json_text.specs.Run.{isGraphic, Run, edgeBehind}
+use Rattle.json_text.specs.Run.{isGraphic, Run, runEnd, edgeBehind}
 use Rattle.json_text.specs.Text.{textFrom, textAt, ruleOf, none, wrongHere, firstOf, closesAt, wrongFrom, wrongAt, textRead}
 use Rattle.json_text.specs.declared.TextType.{TextType}
 use Rattle.json_text.specs.declared.Wrong.{Wrong}
@@ -117,22 +117,33 @@ module _ (ty : TextType) (s : List ℕ) (at : ℕ) (w : Wrong) (i : ℕ) (edge :
       both ty s at (p .0) (p .1 ∙ left .tidy)
 
 -- ---- a run of bytes that are characters by themselves and break no rule
-pub run-none : (s : List ℕ) (i : ℕ) → Run s i i
-run-none s i = record { onwards = omega arith; graphic = λ k a b. absurd (omega arith) }
-
-pub run-on : (s : List ℕ) (i j : ℕ) → Run s i j → isGraphic (byteAt s j) ≡ true → Run s i (j + 1)
-run-on s i j run g =
-    record { onwards = omega (arith, run .onwards); graphic = λ k a b. go k a (eqb k j) refl b }
+-- the bytes that a run passes pass its test
+passed : (f : ℕ → Bool) (s : List ℕ) (i k : ℕ) → i ≤ k → k < i + leading f (drop i s) → f (byteAt s k) ≡ true
+unfolding leading
+passed f [] zero k l m =
+    let n : k < 0 + 0 = m in
+    absurd (omega (arith, n))
+passed f [] (suc i) k l m =
+    let n : k < suc i + 0 = m in
+    absurd (omega (arith, n))
+passed f (b ∷ bs) zero k l m = go (f b) refl (λ j n. passed f bs zero j (omega arith) n) k m
   where
-    go : (k : ℕ) → i ≤ k → (t : Bool) → eqb k j ≡ t → k < j + 1 → isGraphic (byteAt s k) ≡ true
-    go k a true e b = rw (← (eqb-true k j e)) at g
-    go k a false e b = run .graphic k a (omega (arith, eqb-false k j e))
+    go : (t : Bool) → f b ≡ t → ((j : ℕ) → j < 0 + leading f bs → f (byteAt bs j) ≡ true) → (k : ℕ) → k < 0 + (elim t [ true ↦ suc (leading f bs) | false ↦ 0 ]) → f (byteAt (b ∷ bs) k) ≡ true
+    go true e others zero m = e
+    go true e others (suc k) m = others k (omega arith)
+    go false e others k m = absurd (omega arith)
+passed f (b ∷ bs) (suc i) zero l m = absurd (omega arith)
+passed f (b ∷ bs) (suc i) (suc k) l m = passed f bs i k (omega arith) (omega arith)
+
+pub run-of : (s : List ℕ) (i j : ℕ) → j ≡ runEnd s i → Run s i j
+unfolding runEnd
+run-of s i j is = record { onwards = omega (arith, is); graphic = λ k a b. passed isGraphic s i k a (rw is at b) }
 
 not-first : (t u : Bool) → cond t false u ≡ true → (t ≡ false) × (u ≡ true)
 not-first true u e = (cc, cc)
 not-first false u e = (refl, e)
 
-graphic-step : (s : List ℕ) (k : ℕ) → isGraphic (byteAt s k) ≡ true → (stepAt s k ≡ Char (byteAt s k) (k + 1)) × (within 0x21 0x7E (byteAt s k) ≡ true)
+pub graphic-step : (s : List ℕ) (k : ℕ) → isGraphic (byteAt s k) ≡ true → (stepAt s k ≡ Char (byteAt s k) (k + 1)) × (within 0x21 0x7E (byteAt s k) ≡ true)
 unfolding isGraphic
 graphic-step s k g =
     let quote : (eqb (byteAt s k) 34 ≡ false) × (cond (eqb (byteAt s k) 92) false (within 0x21 0x7E (byteAt s k)) ≡ true) = not-first (eqb (byteAt s k) 34) _ g in
@@ -172,6 +183,9 @@ module _ (ty : TextType) (s : List ℕ) (at : ℕ) (w : Wrong) where
       go false e =
           let is : i ≡ j = omega (arith, ltb-false i j e, run .onwards) in
           rw is at left
+
+  pub along-end : (i j : ℕ) (edge : Bool) → Left ty s at w i edge → j ≡ runEnd s i → Left ty s at w j (edgeBehind edge i j)
+  along-end i j edge left is = along-run i j edge left (run-of s i j is)
 
 module _ (ty : TextType) (s : List ℕ) (at : ℕ) where
   pub opened : at < length s → byteAt s at ≡ 34 → Left ty s at (record { rule = 0; place = 0 }) (at + 1) true

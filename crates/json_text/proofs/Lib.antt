@@ -1,5 +1,6 @@
 pub mod Opens
 pub mod Laws
+pub mod Plain
 pub mod Bounds
 pub mod Spaces
 pub mod Cases

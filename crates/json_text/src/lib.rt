@@ -1,7 +1,7 @@
 // A string read whole, with the first character that breaks a rule of its type, in one pass.
 ghost use mathlib.Core.Path.{_≡_};
 ghost use mathlib.Core.Bool.{_||_};
-ghost use Rattle.json_text.specs.Run.{isGraphic, Run, edgeBehind};
+ghost use Rattle.json_text.specs.Run.{isGraphic, runEnd, plainEnd, edgeBehind};
 ghost use Rattle.json_text.specs.Text.{barred, whiteSpace, blanks, inRuns, isWhite, wrongSpace, outsideID, ruleOf, wrongHere, firstOf, closesAt, textRead};
 use json_bytes::Reading;
 use json_bytes::byte_at;
@@ -169,14 +169,17 @@ fn first_of(earlier: Wrong, rule: u32, i: usize) -> Wrong
 }
 
 // Whether a byte is a character by itself that breaks no rule of any type: U+0021 to U+007E but the quote
-// and the backslash.
+// and the backslash. Most bytes are over the quote, and two tests tell them.
 fn is_graphic(b: u8) -> bool
     ensures { λ r. ⌜ r ≡ isGraphic b ⌝ }
 {
-    if b == 34 {
+    if b == 92 {
         return false;
     }
-    if b == 92 {
+    if is_within(0x23, 0x7E, b as u32) {
+        return true;
+    }
+    if b == 34 {
         return false;
     }
     is_within(0x21, 0x7E, b as u32)
@@ -184,7 +187,7 @@ fn is_graphic(b: u8) -> bool
 
 // The first place from i on that does not hold such a byte.
 fn run_end(s: &[u8], i: usize) -> usize
-    ensures { λ r. ⌜ Run (now (s .entry)) i r ⌝ }
+    ensures { λ r. ⌜ r ≡ runEnd (now (s .entry)) i ⌝ }
 {
     let mut j = i;
     while j < s.len() {
@@ -195,6 +198,24 @@ fn run_end(s: &[u8], i: usize) -> usize
         }
     }
     j
+}
+
+// The place of the closing quote of the string whose opening quote stands at `at`, where only such bytes
+// stand between the two, and one at least: they are its characters, and it breaks no rule. 0 for any other.
+pub fn plain_end(s: &[u8], at: usize) -> usize
+    ensures { λ r. ⌜ r ≡ plainEnd (now (s .entry)) at ⌝ }
+{
+    if byte_at(s, at) != 34 {
+        return 0;
+    }
+    let j = run_end(s, at + 1);
+    if j <= at + 1 {
+        return 0;
+    }
+    if byte_at(s, j) == 34 {
+        return j;
+    }
+    0
 }
 
 // Behind a run of such bytes there is no edge.
@@ -226,6 +247,13 @@ pub fn read_text(s: &[u8], at: usize, ty: TextType) -> TextRead
     let mut edge = true;
     loop {
         let j = run_end(s, i);
+        if byte_at(s, j) == 34 {
+            let end = j + 1;
+            return TextRead {
+                reading: Reading::Whole { end },
+                wrong,
+            };
+        }
         match step_at(s, j) {
             Step::Char { code, next } => {
                 let near = is_edge(is_edge_behind(edge, i, j), s, next);

@@ -54,6 +54,10 @@ module _ (rows names : List ℕ) (count k : ℕ) where
   unfolding fieldAt nameText
   name-apart cs from to isFrom isTo e = rw (← isFrom, ← isTo) e
 
+  -- one that was compared whole
+  pub field-told : (cs : List ℕ) (from to : ℕ) (t : Bool) → from ≡ nameStart rows k → to ≡ nameEnd rows k → t ≡ sameAs Kept cs (partOf names from to) → sameAs Kept cs (fieldAt rows names k .name) ≡ t
+  field-told cs from to t isFrom isTo isSame = name-told cs (partOf names from to) from to t isFrom isTo refl isSame
+
   module _ (cs : List ℕ) where
     pub index-more : k < count → sameAs Kept cs (fieldAt rows names k .name) ≡ false → k + indexOf cs (fieldsFrom rows names (count - k) k) ≡ (k + 1) + indexOf cs (fieldsFrom rows names (count - (k + 1)) (k + 1))
     unfolding indexOf

@@ -1,3 +1,5 @@
 pub mod Opens
 pub mod Laws
+pub mod Words
+pub mod Spelling
 pub mod FaultKinds

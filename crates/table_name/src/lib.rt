@@ -1,19 +1,25 @@
 // What stands around the values of a table: the name of a field, the colon behind it, and what
 // follows in an object or an array.
 ghost use mathlib.Core.Path.{_≡_};
+ghost use Prim.Native.Nat.{_<_};
+ghost use lib.ListN.{length};
 ghost use Rattle.json_chars.specs.Chars.{charsAt};
-ghost use mathlib.Core.Bool.{true, false};
-ghost use Rattle.json_same.specs.Same.{sameAs};
+ghost use mathlib.Core.Bool.{true, false, cond};
+ghost use lib.Dec.{ltb};
+ghost use Rattle.json_same.specs.Same.{sameAs, sameList};
 ghost use Rattle.parts.specs.Part.{partOf};
 ghost use Rattle.table_rows.specs.Rows.{fieldsFrom};
 ghost use Rattle.table_name.specs.Name.{indexOf, namedAt, nameAt, colonAt, firstIn, nextAfter};
 use json_bytes::Reading;
 use json_bytes::byte_at;
 use json_bytes::skip_spaces;
+use json_chars::Step;
+use json_chars::step_at;
 use json_same::Case;
 use json_same::is_plain;
 use json_same::text_is;
 use json_text::TextType;
+use json_text::plain_end;
 use json_text::read_text;
 use parts::part;
 use table_rows::name_end;
@@ -85,24 +91,129 @@ fn index_of(s: &[u8], at: usize, rows: &[u32], names: &[u8], count: usize) -> us
     k
 }
 
+// Whether two lists of bytes are the same.
+pub fn same_bytes(a: &[u8], b: &[u8]) -> bool
+    ensures { λ r. ⌜ r ≡ sameList (now (a .entry)) (now (b .entry)) ⌝ }
+{
+    if a.len() != b.len() {
+        return false;
+    }
+    let mut i = 0;
+    while i < a.len() {
+        if a[i] != b[i] {
+            return false;
+        }
+        i += 1;
+    }
+    true
+}
+
+// Whether a word is the name that stands in the names from one place up to another. Most are told apart by
+// their lengths.
+fn is_word(word: &[u8], names: &[u8], from: usize, to: usize) -> bool
+    requires { ⌜ 0 < length (now word) ⌝ }
+    ensures { λ r. ⌜ r ≡ sameAs Case.Kept (now (word .entry)) (partOf (now (names .entry)) from to) ⌝ }
+{
+    if to < from {
+        return false;
+    }
+    if to - from != word.len() {
+        return false;
+    }
+    same_bytes(word, part(names, from, to))
+}
+
+// The place among the table's `count` fields of the one whose name is this word; `count` for none.
+fn word_index(word: &[u8], rows: &[u32], names: &[u8], count: usize) -> usize
+    requires { ⌜ 0 < length (now word) ⌝ }
+    ensures { λ r. ⌜ r ≡ indexOf (now (word .entry)) (fieldsFrom (now (rows .entry)) (now (names .entry)) count 0) ⌝ }
+{
+    let mut k = 0;
+    while k < count {
+        let from = name_start(rows, k);
+        let to = name_end(rows, k);
+        if is_word(word, names, from, to) {
+            return k;
+        }
+        k += 1;
+    }
+    k
+}
+
+// The field of the name at `at`, which ends at `end`: the one of an index, or 13 where that is no
+// field's.
+fn known(index: usize, count: usize, at: usize, end: usize) -> NameRead
+    ensures { λ r. ⌜ r ≡ cond (ltb index count) (NameRead.Known index end) (NameRead.Unknown 13 at) ⌝ }
+{
+    if index < count {
+        return NameRead::Known { index, end };
+    }
+    NameRead::Unknown {
+        kind: 13,
+        place: at,
+    }
+}
+
 // The name whose opening quote stands at `at`, read whole and then looked for.
-pub fn name_at(s: &[u8], at: usize, rows: &[u32], names: &[u8], count: usize) -> NameRead
+fn read_name(s: &[u8], at: usize, rows: &[u32], names: &[u8], count: usize) -> NameRead
     ensures { λ r. ⌜ r ≡ nameAt (fieldsFrom (now (rows .entry)) (now (names .entry)) count 0) (now (s .entry)) at ⌝ }
 {
     let reading = read_text(s, at, TextType::Text).reading;
     match reading {
-        Reading::Whole { end } => {
-            let index = index_of(s, at, rows, names, count);
-            if index < count {
-                return NameRead::Known { index, end };
-            }
-            NameRead::Unknown {
-                kind: 13,
-                place: at,
-            }
-        }
+        Reading::Whole { end } => known(index_of(s, at, rows, names, count), count, at, end),
         Reading::Fault { kind, place } => NameRead::Unknown { kind, place },
     }
+}
+
+// The same, its characters put down one behind the other and looked for as a word. One that has none, or more
+// than any field's name has, or a letter beyond ASCII, or a fault, is read as it stands.
+fn decoded_name(s: &[u8], at: usize, rows: &[u32], names: &[u8], count: usize) -> NameRead
+    ensures { λ r. ⌜ r ≡ nameAt (fieldsFrom (now (rows .entry)) (now (names .entry)) count 0) (now (s .entry)) at ⌝ }
+{
+    if byte_at(s, at) != b'"' {
+        return read_name(s, at, rows, names, count);
+    }
+    let mut word = [0u8; 32];
+    let mut n = 0;
+    let mut i = at + 1;
+    loop {
+        match step_at(s, i) {
+            Step::Char { code, next } => {
+                if 32 <= n {
+                    return read_name(s, at, rows, names, count);
+                }
+                if 128 <= code {
+                    return read_name(s, at, rows, names, count);
+                }
+                word[n] = code as u8;
+                n += 1;
+                i = next;
+            }
+            Step::Close => {
+                if n == 0 {
+                    return read_name(s, at, rows, names, count);
+                }
+                let index = word_index(&word[..n], rows, names, count);
+                return known(index, count, at, i + 1);
+            }
+            Step::Bad { kind: _, place: _ } => {
+                return read_name(s, at, rows, names, count);
+            }
+        }
+    }
+}
+
+// The name whose opening quote stands at `at`: which field it is, or its fault. Most have no escape, and are
+// looked for by their bytes as they stand.
+pub fn name_at(s: &[u8], at: usize, rows: &[u32], names: &[u8], count: usize) -> NameRead
+    ensures { λ r. ⌜ r ≡ nameAt (fieldsFrom (now (rows .entry)) (now (names .entry)) count 0) (now (s .entry)) at ⌝ }
+{
+    let close = plain_end(s, at);
+    if 0 < close {
+        let index = word_index(part(s, at + 1, close), rows, names, count);
+        return known(index, count, at, close + 1);
+    }
+    decoded_name(s, at, rows, names, count)
 }
 
 // The place of the value behind a name that ends at `end`.

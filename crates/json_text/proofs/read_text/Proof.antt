@@ -7,8 +7,10 @@ use borrow.Author.Needs.{needs}
 use lib.ListN.{length}
 use lib.Dec.{lit<}
 use denote.Ref.{now}
+use Rattle.json_bytes.specs.Reads.{byteAt}
 use Rattle.json_bytes.proofs.Laws.{inside}
-use Rattle.json_text.proofs.Laws.{Left, opened, unopened, take-char, take-close, take-bad, char-after, close-inside, along-run}
+use Rattle.json_chars.proofs.Plain.{closing-step}
+use Rattle.json_text.proofs.Laws.{Left, opened, unopened, take-char, take-close, take-bad, char-after, close-inside, run-of, along-end}
 use Rattle.json_text.proofs.read_text.Statement.{statement}
 use Rattle.json_text.proofs.read_text.Tie as tie
 
@@ -33,6 +35,18 @@ loop-holds c = opened _ _ _ (inside (now (c .before .before .before .args .s)) _
 run-end-requires : tie.Need-run-end-requires Inv-loop μ-loop
 run-end-requires c κs = search needs
 
+byte-at-requires-2 : tie.Need-byte-at-requires-2 Inv-loop μ-loop
+byte-at-requires-2 c κs = search needs
+
+closed : (c : tie.Then2 Inv-loop μ-loop) → byteAt (now (c .before .before .before .before .before .before .before .args .s)) (c .before .before .run-end .result) ≡ 34
+closed c = sym (c .before .byte-at2 .ensures) ∙ c .if2 .taken
+
+add-end : tie.Need-add-end Inv-loop μ-loop
+add-end c = omega (arith, inside (now (c .before .before .before .before .before .before .before .args .s)) _ 34 (closed c) (lit< tt))
+
+returns-2 : tie.Need-returns-2 Inv-loop μ-loop
+returns-2 c = sym (take-close _ _ _ _ _ _ (along-end _ _ _ _ _ _ _ (c .before .before .before .loop .inv) (c .before .before .run-end .ensures)) (closing-step _ _ (closed c)))
+
 step-at-requires : tie.Need-step-at-requires Inv-loop μ-loop
 step-at-requires c κs = search needs
 
@@ -52,25 +66,25 @@ first-of-requires : tie.Need-first-of-requires Inv-loop μ-loop
 first-of-requires c κs = search needs
 
 loop-less : tie.Need-loop-less Inv-loop μ-loop
-loop-less c = omega (arith, c .before .before .before .before .before .before .before .before .run-end .ensures .onwards, char-after _ _ _ _ _ _ (along-run _ _ _ _ _ _ _ (c .before .before .before .before .before .before .before .before .before .loop .inv) (c .before .before .before .before .before .before .before .before .run-end .ensures)) _ _ (sym (c .before .before .before .before .before .before .before .step-at .ensures) ∙ c .before .before .before .before .before .code .given .1))
+loop-less c = omega (arith, run-of _ _ _ (c .before .before .before .before .before .before .before .before .before .before .run-end .ensures) .onwards, char-after _ _ _ _ _ _ (along-end _ _ _ _ _ _ _ (c .before .before .before .before .before .before .before .before .before .before .before .loop .inv) (c .before .before .before .before .before .before .before .before .before .before .run-end .ensures)) _ _ (sym (c .before .before .before .before .before .before .before .step-at .ensures) ∙ c .before .before .before .before .before .code .given .1))
 
 loop-again : tie.Need-loop-again Inv-loop μ-loop
-loop-again c = take-char _ _ _ _ _ _ (along-run _ _ _ _ _ _ _ (c .before .before .before .before .before .before .before .before .before .loop .inv) (c .before .before .before .before .before .before .before .before .run-end .ensures)) _ _ _ _ _ (sym (c .before .before .before .before .before .before .before .step-at .ensures) ∙ c .before .before .before .before .before .code .given .1) (rw (c .before .before .before .is-edge-behind .ensures) at (c .before .before .is-edge .ensures)) (c .before .rule-of .ensures) (c .first-of .ensures)
+loop-again c = take-char _ _ _ _ _ _ (along-end _ _ _ _ _ _ _ (c .before .before .before .before .before .before .before .before .before .before .before .loop .inv) (c .before .before .before .before .before .before .before .before .before .before .run-end .ensures)) _ _ _ _ _ (sym (c .before .before .before .before .before .before .before .step-at .ensures) ∙ c .before .before .before .before .before .code .given .1) (rw (c .before .before .before .is-edge-behind .ensures) at (c .before .before .is-edge .ensures)) (c .before .rule-of .ensures) (c .first-of .ensures)
 
 enum-told : tie.Need-enum-told Inv-loop μ-loop
 enum-told c = search needs
 
-add-t19 : tie.Need-add-t19 Inv-loop μ-loop
-add-t19 c = omega (arith, close-inside _ _ _ _ _ _ (along-run _ _ _ _ _ _ _ (c .before .before .before .before .loop .inv) (c .before .before .before .run-end .ensures)) (sym (c .before .before .step-at .ensures) ∙ c .enum-told .given .1))
+add-t23 : tie.Need-add-t23 Inv-loop μ-loop
+add-t23 c = omega (arith, close-inside _ _ _ _ _ _ (along-end _ _ _ _ _ _ _ (c .before .before .before .before .before .before .loop .inv) (c .before .before .before .before .before .run-end .ensures)) (sym (c .before .before .step-at .ensures) ∙ c .enum-told .given .1))
 
-returns-2 : tie.Need-returns-2 Inv-loop μ-loop
-returns-2 c = sym (take-close _ _ _ _ _ _ (along-run _ _ _ _ _ _ _ (c .before .before .before .before .loop .inv) (c .before .before .before .run-end .ensures)) (sym (c .before .before .step-at .ensures) ∙ c .enum-told .given .1))
+returns-3 : tie.Need-returns-3 Inv-loop μ-loop
+returns-3 c = sym (take-close _ _ _ _ _ _ (along-end _ _ _ _ _ _ _ (c .before .before .before .before .before .before .loop .inv) (c .before .before .before .before .before .run-end .ensures)) (sym (c .before .before .step-at .ensures) ∙ c .enum-told .given .1))
 
 enum-known-kind : tie.Need-enum-known-kind Inv-loop μ-loop
 enum-known-kind c = search needs
 
-returns-3 : tie.Need-returns-3 Inv-loop μ-loop
-returns-3 c = sym (take-bad _ _ _ _ _ _ (along-run _ _ _ _ _ _ _ (c .before .before .before .before .before .loop .inv) (c .before .before .before .before .run-end .ensures)) _ _ (sym (c .before .before .before .step-at .ensures) ∙ c .before .kind .given .1))
+returns-4 : tie.Need-returns-4 Inv-loop μ-loop
+returns-4 c = sym (take-bad _ _ _ _ _ _ (along-end _ _ _ _ _ _ _ (c .before .before .before .before .before .before .before .loop .inv) (c .before .before .before .before .before .before .run-end .ensures)) _ _ (sym (c .before .before .before .step-at .ensures) ∙ c .before .kind .given .1))
 
 pub read-text-spec : {M : Type 1} → statement M
 read-text-spec =
@@ -83,6 +97,9 @@ read-text-spec =
     add-i
     loop-holds
     run-end-requires
+    byte-at-requires-2
+    add-end
+    returns-2
     step-at-requires
     enum-known-code
     is-edge-behind-requires
@@ -92,7 +109,7 @@ read-text-spec =
     loop-less
     loop-again
     enum-told
-    add-t19
-    returns-2
+    add-t23
+    returns-3
     enum-known-kind
-    returns-3)
+    returns-4)

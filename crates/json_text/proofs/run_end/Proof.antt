@@ -1,22 +1,24 @@
--- `json_text::run_end` meets its contract: the bytes passed are such.
-use Prim.Native.Nat.{_-_}
-use mathlib.Core.Path.{_≡_, sym, _∙_}
+-- `json_text::run_end` meets its contract: what is left of the run from here ends where the whole run ends.
+use Prim.Native.Nat.{_+_, _-_}
+use mathlib.Core.Path.{_≡_, refl, sym, _∙_}
 use native.Mathlib.Omega.{arith}
+use lib.ListN.{length, drop}
 use borrow.Author.Needs.{needs}
-use lib.ListN.{length}
-use Rattle.json_text.specs.Run.{Run}
-use Rattle.json_text.proofs.Laws.{run-none, run-on}
+use Rattle.json_bytes.specs.Reads.{leading}
+use Rattle.json_bytes.proofs.Laws.{run-more, run-stops, run-ends}
+use Rattle.json_text.specs.Run.{isGraphic, runEnd}
 use Rattle.json_text.proofs.run_end.Statement.{statement}
 use Rattle.json_text.proofs.run_end.Tie as tie
 
 abbrev Inv-loop : tie.InvT-loop
-Inv-loop s i j₀ j = Run s i j
+Inv-loop s i j₀ j = runEnd s i ≡ j + leading isGraphic (drop j s)
 
 abbrev μ-loop : tie.MeasureT-loop
 μ-loop s i j₀ j = length s - j
 
 loop-holds : tie.Need-loop-holds Inv-loop μ-loop
-loop-holds c = run-none _ _
+unfolding runEnd
+loop-holds c = refl
 
 shared-slice-read-is-graphic : tie.Need-shared-slice-read-is-graphic Inv-loop μ-loop
 shared-slice-read-is-graphic c = omega arith
@@ -31,13 +33,13 @@ loop-less : tie.Need-loop-less Inv-loop μ-loop
 loop-less c = omega arith
 
 loop-again : tie.Need-loop-again Inv-loop μ-loop
-loop-again c = run-on _ _ _ (c .before .before .before .before .loop .inv) (sym (c .before .is-graphic .ensures) ∙ c .if1 .taken)
+loop-again c = c .before .before .before .before .loop .inv ∙ run-more isGraphic _ _ (c .before .before .before .loop-test .taken) (sym (c .before .is-graphic .ensures) ∙ c .if1 .taken)
 
 returns : tie.Need-returns Inv-loop μ-loop
-returns c = c .before .before .before .before .loop .inv
+returns c = sym (c .before .before .before .before .loop .inv ∙ run-stops isGraphic _ _ (c .before .before .before .loop-test .taken) (sym (c .before .is-graphic .ensures) ∙ c .if1 .left))
 
 returns-2 : tie.Need-returns-2 Inv-loop μ-loop
-returns-2 c = c .before .loop .inv
+returns-2 c = sym (c .before .loop .inv ∙ run-ends isGraphic _ _ (c .loop-test .left))
 
 pub run-end-spec : {M : Type 1} → statement M
 run-end-spec =

@@ -13,6 +13,7 @@ pub(super) fn add(cases: &mut Cases) {
     add_broken_surrogate_pairs(cases);
     add_places_past_the_end(cases);
     add_long_strings(cases);
+    add_plain_runs(cases);
 }
 
 /// Whole strings that between them hold every way to write a character.
@@ -189,4 +190,31 @@ fn add_long_strings(cases: &mut Cases) {
     cases.text_by_each_kind(0, &unlisted);
     let last_broken = joined(&[b"\"", &vec![b'a'; 99_000], &[0xE2, 0x82]]);
     cases.text_by_each_kind(0, &last_broken);
+}
+
+/// Runs of letters of several lengths, and at each of their places the bytes at
+/// which such a run may end, or just not: by themselves and before a closing
+/// quote; and the file's end at each place.
+fn add_plain_runs(cases: &mut Cases) {
+    const ENDS: [u8; 15] =
+        [0x1F, 0x20, 0x21, 0x22, 0x23, 0x5B, 0x5C, 0x5D, 0x7E, 0x7F, 0x80, 0xBF, 0xC2, 0xE2, 0xFF];
+    for length in [1, 2, 3, 7, 8, 9, 15, 16, 17, 33] {
+        let run = quoted(&b"Quay-wall_7".iter().copied().cycle().take(length).collect::<Vec<u8>>());
+        for at in 0..=run.len() {
+            cases.text_by_some_kind(0, &run[..at]);
+            for byte in ENDS {
+                cases.text_by_some_kind(0, &inserted(&run, at, byte));
+                cases.text_by_some_kind(0, &inserted(&inserted(&run, at, b'"'), at, byte));
+            }
+        }
+        for at in 1..run.len() - 1 {
+            for byte in ENDS {
+                cases.text_by_each_kind(0, &replaced(&run, at, byte));
+            }
+            for character in ["\\\\", "\\u0041", "\\u0020", "é", "\u{1F600}"] {
+                let written = joined(&[&run[..at], character.as_bytes(), &run[at..]]);
+                cases.text_by_each_kind(0, &written);
+            }
+        }
+    }
 }

@@ -10,6 +10,7 @@ pub(super) fn add(cases: &mut Cases) {
         add_right_spellings(cases, field);
         add_fronts(cases, field);
         add_misspelt(cases, field);
+        add_broken_off(cases, field);
         add_twice(cases, field);
     }
     for table in tables() {
@@ -123,6 +124,27 @@ fn add_faulty_spellings(cases: &mut Cases, field: &Field) {
         cases.named(field, &joined(&[name, fault]));
         let at = cases.random.below(name.len());
         cases.named(field, &joined(&[&name[..at], fault, &name[at..]]));
+    }
+}
+
+/// At the first places of a name and at the last: a byte from 80 on, a
+/// backslash, a quote, another letter; and the file's end.
+fn add_broken_off(cases: &mut Cases, field: &Field) {
+    let name = field.name.as_bytes();
+    for at in [0, 1, name.len() - 1, name.len()] {
+        let (front, back) = (&name[..at], &name[at..]);
+        for middle in ["\u{80}", "\u{e9}", "\\", "\\u", "\"", "\\\"", "x", "!", "~", "\u{7f}"] {
+            cases.named(field, &joined(&[front, middle.as_bytes(), back]));
+        }
+        if at > 0 {
+            let middles: [&[u8]; 4] = [b"\x80", b"\xC3", b"\\", b"\x7F"];
+            for middle in middles {
+                cases.named(field, &joined(&[&name[..at - 1], middle, back]));
+            }
+        }
+        let least = Draft::least(field.table, 0).without(field.name);
+        let comma: &[u8] = if least.members.is_empty() { b"" } else { b"," };
+        cases.file(field.table, &joined(&[&unclosed(field.table, &least), comma, b"\"", front]));
     }
 }
 
