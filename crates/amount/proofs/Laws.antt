@@ -12,7 +12,7 @@ use Rattle.json_number.specs.Number.{wholeOf, withinLimits}
 use Rattle.json_number.specs.declared.Integer.{Integer}
 use Rattle.json_number.specs.declared.Integer.the-variants.{Is, Fraction, TooLarge}
 use Rattle.rule_cells.specs.Cells.{Table}
-use Rattle.amount.specs.Amount.{largestAmount, signed, isAmount, amountOf, countIn, amountIn}
+use Rattle.amount.specs.Amount.{largestAmount, signed, isAmount, amountOf, tenThousandthsIn, amountIn}
 
 pub signed-within : (negative : Bool) (size : ℕ) → natAbs (signed negative size) ≡ size
 signed-within true size = negative-within size
@@ -30,7 +30,7 @@ amount-of-within TooLarge = omega arith
 
 pub amount-within : (t : Table) (r k : ℕ) → natAbs (amountIn t r k) ≤ largestAmount
 unfolding amountIn
-amount-within t r k = amount-of-within (countIn t r k)
+amount-within t r k = amount-of-within (tenThousandthsIn t r k)
 
 -- a p over 11 in ten-thousandths is over 15, outside the limits
 and-false : (b : Bool) → (b && false) ≡ false

@@ -35,12 +35,12 @@ amountOf Fraction = pos 0
 amountOf TooLarge = pos 0
 
 -- ---- In field k of record r. "Null adds nothing."
-unfoldable pub countIn : Table → ℕ → ℕ → Integer
-countIn t r k =
+unfoldable pub tenThousandthsIn : Table → ℕ → ℕ → Integer
+tenThousandthsIn t r k =
     cond (isGiven (t .cells) (t .width) r k) (tenThousandths (numberAt (t .bytes) (startOf (t .cells) (t .width) r k) .value)) (Is false 0)
 
 unfoldable pub isAmountIn : Table → ℕ → ℕ → Bool
-isAmountIn t r k = isAmount (countIn t r k)
+isAmountIn t r k = isAmount (tenThousandthsIn t r k)
 
 unfoldable pub amountIn : Table → ℕ → ℕ → ℤ
-amountIn t r k = amountOf (countIn t r k)
+amountIn t r k = amountOf (tenThousandthsIn t r k)

@@ -4,7 +4,7 @@ ghost use Prim.Native.Nat.{_+_, _≤_};
 ghost use Rattle.json_number.specs.Number.{wholeOf};
 ghost use Rattle.json_number.specs.declared.Integer.the-variants.{Is};
 ghost use Rattle.rule_cells.specs.Cells.{table};
-ghost use Rattle.amount.specs.Amount.{tenThousandths, largestAmount, isAmount, signed, amountOf, countIn, isAmountIn, amountIn};
+ghost use Rattle.amount.specs.Amount.{tenThousandths, largestAmount, isAmount, signed, amountOf, tenThousandthsIn, isAmountIn, amountIn};
 use json_number::Integer;
 use json_number::Value;
 use json_number::integer_of;
@@ -42,7 +42,7 @@ fn ten_thousandths(v: Value) -> Integer
 
 // The number in field k of record r, counted in ten-thousandths; a null is 0.
 fn count_in(s: &[u8], cells: &[u32], width: usize, r: usize, k: usize) -> Integer
-    ensures { λ x. ⌜ x ≡ countIn (table (now (s .entry)) (now (cells .entry)) width 0) r k ⌝ }
+    ensures { λ x. ⌜ x ≡ tenThousandthsIn (table (now (s .entry)) (now (cells .entry)) width 0) r k ⌝ }
 {
     if is_given(cells, width, r, k) {
         let value = number_at(s, start_of(cells, width, r, k)).value;

@@ -11,8 +11,8 @@ use Rattle.mark_numbers.specs.declared.Mark.{Mark}
 use Rattle.mark_numbers.specs.Marks.{Marks, marksFrom, markIn}
 use Rattle.mark_numbers.proofs.Laws.{mark-of-marks}
 use Rattle.rule_shape.specs.declared.Rule.{Rule}
-use Rattle.rule_shape.specs.Rule.{reads, firstOf}
-use Rattle.gate_marks.specs.Gate.{gateOf, marksOf, ruleOf, markReads, readsFile}
+use Rattle.rule_shape.specs.Rule.{reads, firstFileOf}
+use Rattle.gate_marks.specs.Gate.{gateOf, marksOf, ruleOfMark, markReads, readsFile}
 use Rattle.gate_marks.specs.Marks.{fileMark, tableOf, ruleMark, ruleMarkAt, markAt, fullMarks}
 use Rattle.reason.specs.Reason.{toldOf, reasonAt}
 use Rattle.gate_calls.specs.Calls.{changedMarks}
@@ -23,7 +23,7 @@ use Rattle.baseline.specs.Baseline.{baseline}
 use Rattle.baseline.proofs.Laws.{files-are, marks-are}
 
 module _ (m : ℕ) (l : m < 81) where
-  rule-same : ruleOf baseline m ≡ ruleOf schedule m
+  rule-same : ruleOfMark baseline m ≡ ruleOfMark schedule m
   unfolding baseline schedule gateOf
   rule-same =
       ap (λ (n : ℕ). baseline .rule (m - n)) files-are
@@ -65,6 +65,6 @@ module _ (m : ℕ) (l : m < 81) where
   told-same offset files = told rule-same (mark-same files)
     where
       told : {r q : Rule} {x y : Mark} → r ≡ q → x ≡ y
-          → toldOf (schedule .files) m r (offset (firstOf r)) (λ k. fileMark (schedule .expected k) (files k) .kind) (tableOf (schedule .expected (firstOf r)) (files (firstOf r))) x
-          ≡ toldOf (schedule .files) m q (offset (firstOf q)) (λ k. fileMark (schedule .expected k) (files k) .kind) (tableOf (schedule .expected (firstOf q)) (files (firstOf q))) y
+          → toldOf (schedule .files) m r (offset (firstFileOf r)) (λ k. fileMark (schedule .expected k) (files k) .kind) (tableOf (schedule .expected (firstFileOf r)) (files (firstFileOf r))) x
+          ≡ toldOf (schedule .files) m q (offset (firstFileOf q)) (λ k. fileMark (schedule .expected k) (files k) .kind) (tableOf (schedule .expected (firstFileOf q)) (files (firstFileOf q))) y
       told e f = rw (e, f)

@@ -7,7 +7,7 @@ use Rattle.table_file.proofs.Opens.{open-files}
 use Rattle.rules.proofs.Opens.{open-rules}
 use Rattle.rule_reason.proofs.Opens.{open-reasons}
 use Rattle.baseline_rules.proofs.Opens.{open-baseline-rows}
-use Rattle.bundle_bytes.specs.Pieces.{startOf}
+use Rattle.bundle_bytes.specs.Pieces.{pieceStart}
 use Rattle.bundle_layout.specs.Bundle.{headerSize}
 use Rattle.parts.specs.Files.{bytesOf}
 use Rattle.gate_marks.specs.Gate.{gateOf, markReads}
@@ -23,7 +23,7 @@ unfolding open-files open-rules open-baseline-rows gateOf due free expectedFiles
 baseline-cases = refl
 
 pub baseline-reasons : map (λ (c : Told). told baseline (c .files) (c .mark)) reasons ≡ map (λ (c : Told). c .stated) reasons
-unfolding open-files open-rules open-reasons open-baseline-rows gateOf due free expectedFiles baseline bytesOf startOf headerSize markRead valueStart valueLength shownOf brokenBy isReadable lowestOf unreadOf toldOf fileIn reading tableHere kindHere startHere markHere told broken dataWith fiveWith noHours reasons
+unfolding open-files open-rules open-reasons open-baseline-rows gateOf due free expectedFiles baseline bytesOf pieceStart headerSize markRead valueStart valueLength shownOf brokenBy isReadable lowestOf unreadOf toldOf fileIn reading tableHere kindHere startHere markHere told broken dataWith fiveWith noHours reasons
 baseline-reasons = refl
 
 -- 8.6: file 10 touches 81 to 83 as well, file 19 touches 84

@@ -2,8 +2,8 @@
 -- added here asks nothing of those above.
 use mathlib.Core.Bool.{Bool, true}
 use Rattle.schedule_rules.proofs.Opens.{open-rows}
-use Rattle.baseline_rules.specs.Rules.{allGiven, noneGiven, inOrder, furtherRules, baselineRules, furtherRows, baselineRows}
+use Rattle.baseline_rules.specs.Rules.{allGiven, noneGiven, datesInOrder, furtherRules, baselineRules, furtherRows, baselineRows}
 
 unfoldable pub open-baseline-rows : Bool
-unfolding open-rows allGiven noneGiven inOrder furtherRules baselineRules furtherRows baselineRows
+unfolding open-rows allGiven noneGiven datesInOrder furtherRules baselineRules furtherRows baselineRows
 open-baseline-rows = true

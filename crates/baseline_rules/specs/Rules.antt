@@ -15,8 +15,8 @@ allGiven file a b = AllGiven file (no file a) (suc (no file b))
 unfoldable pub noneGiven : ℕ → String → String → Rule
 noneGiven file a b = NoneGiven file (no file a) (suc (no file b))
 
-unfoldable pub inOrder : ℕ → String → String → Rule
-inOrder file a b = InOrder file (no file a) (no file b)
+unfoldable pub datesInOrder : ℕ → String → String → Rule
+datesInOrder file a b = InOrder file (no file a) (no file b)
 
 -- ---- Marks 81 to 84
 unfoldable pub furtherRules : List Rule
@@ -26,7 +26,7 @@ furtherRules =
     -- "82 no ActualStartDate or ActualFinishDate"
     noneGiven 10 "ActualStartDate" "ActualFinishDate" ∷
     -- "83 BaselineStartDate not after BaselineFinishDate where both are given"
-    inOrder 10 "BaselineStartDate" "BaselineFinishDate" ∷
+    datesInOrder 10 "BaselineStartDate" "BaselineFinishDate" ∷
     -- "on file 19, 84 no actual dollars or hours given"
     noneGiven 19 "Actual_ToDate_Dollars" "Actual_ToDate_Hours" ∷
     []

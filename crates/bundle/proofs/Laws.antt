@@ -16,9 +16,9 @@ use Rattle.parts.specs.Part.{partOf}
 use Rattle.parts.proofs.Laws.{part-is}
 use Rattle.bundle_bytes.specs.Words.{wordAt, wordOf}
 use Rattle.parts.specs.Files.{File, Left, Given, isPresent, bytesOf, newFile}
-use Rattle.bundle_bytes.specs.Pieces.{joined, startOf, written}
+use Rattle.bundle_bytes.specs.Pieces.{joined, pieceStart, written}
 use Rattle.bundle_bytes.proofs.Laws.{Bytes, word-past, word-small, word-length, changed-same, changed-other, written-back, written-behind, joined-next, start-next, joined-length, start-end}
-use Rattle.bundle_layout.specs.Bundle.{headerSize, offsetAt, lengthAt, isOmitted, endOf, standsRight, laidOutFrom, laidOut, bundleFault, partAt, fileAt, piecesOf, entryOf, headerOf, bundleOf, bundleLength}
+use Rattle.bundle_layout.specs.Bundle.{headerSize, offsetAt, lengthAt, isOmitted, endOf, standsRight, laidOutFrom, laidOut, bundleFault, partAt, fileAt, piecesOf, headerPair, headerOf, bundleOf, bundleLength}
 use Rattle.bundle_layout.specs.Change.{filesAfter, tryFault, makeFault, output, outputOf}
 use Rattle.bundle_layout.proofs.Laws.{omitted-offset, omitted-length, entry-start, header-length, length-after, try-none}
 use Rattle.bundle.specs.Answers.{changeOf, triedBundle, madeBundle}
@@ -160,33 +160,33 @@ module _ (n : ℕ) (files : ℕ → File) where
   header-fits room h = omega arith
 
   -- and for each of its files
-  pub file-fits : (room i : ℕ) {end : ℕ} {piece : List ℕ} → bundleLength n files ≤ room → i < n → end ≡ headerSize n + startOf (piecesOf files) i → piece ≡ bytesOf (files i) → end + length piece ≤ room
+  pub file-fits : (room i : ℕ) {end : ℕ} {piece : List ℕ} → bundleLength n files ≤ room → i < n → end ≡ headerSize n + pieceStart (piecesOf files) i → piece ≡ bytesOf (files i) → end + length piece ≤ room
   unfolding bundleLength piecesOf
   file-fits room i h l e q = rw (e, q) (omega (arith, start-end (piecesOf files) i n l))
 
   -- where the next file starts
-  pub end-begins : 4 + 8 * n ≡ headerSize n + startOf (piecesOf files) 0
-  unfolding headerSize startOf
+  pub end-begins : 4 + 8 * n ≡ headerSize n + pieceStart (piecesOf files) 0
+  unfolding headerSize pieceStart
   end-begins = omega arith
 
-  pub end-turn : (i : ℕ) {end : ℕ} {piece : List ℕ} → end ≡ headerSize n + startOf (piecesOf files) i → piece ≡ bytesOf (files i) → end + length piece ≡ headerSize n + startOf (piecesOf files) (i + 1)
+  pub end-turn : (i : ℕ) {end : ℕ} {piece : List ℕ} → end ≡ headerSize n + pieceStart (piecesOf files) i → piece ≡ bytesOf (files i) → end + length piece ≡ headerSize n + pieceStart (piecesOf files) (i + 1)
   unfolding piecesOf
   end-turn i e q = rw (e, q) (omega (arith, start-next (piecesOf files) i))
 
-  entry-shown : (i : ℕ) → entryOf n files i ≡ wordOf (cond (isPresent (files i)) (headerSize n + startOf (piecesOf files) i) 0) ++ wordOf (length (bytesOf (files i)))
-  unfolding entryOf isPresent bytesOf
+  entry-shown : (i : ℕ) → headerPair n files i ≡ wordOf (cond (isPresent (files i)) (headerSize n + pieceStart (piecesOf files) i) 0) ++ wordOf (length (bytesOf (files i)))
+  unfolding headerPair isPresent bytesOf
   entry-shown i = go (files i)
     where
-      go : (f : File) → cond (isPresent f) (wordOf (headerSize n + startOf (piecesOf files) i) ++ wordOf (length (bytesOf f))) (wordOf 0 ++ wordOf 0) ≡ wordOf (cond (isPresent f) (headerSize n + startOf (piecesOf files) i) 0) ++ wordOf (length (bytesOf f))
+      go : (f : File) → cond (isPresent f) (wordOf (headerSize n + pieceStart (piecesOf files) i) ++ wordOf (length (bytesOf f))) (wordOf 0 ++ wordOf 0) ≡ wordOf (cond (isPresent f) (headerSize n + pieceStart (piecesOf files) i) 0) ++ wordOf (length (bytesOf f))
       go Left = refl
       go (Given bytes) = refl
 
   -- the count and the entries of the first i files
   abbrev pub fronts : ℕ → List ℕ
-  fronts i = wordOf n ++ joined (entryOf n files) i
+  fronts i = wordOf n ++ joined (headerPair n files) i
 
   front-length : (i : ℕ) → length (fronts i) ≡ 4 + 8 * i
-  front-length i = omega (arith, length-append (wordOf n) (joined (entryOf n files) i), word-length n, joined-length (entryOf n files) i, entry-start n files i)
+  front-length i = omega (arith, length-append (wordOf n) (joined (headerPair n files) i), word-length n, joined-length (headerPair n files) i, entry-start n files i)
 
   module _ (d : List ℕ) where
     -- at first the count stands there
@@ -195,34 +195,34 @@ module _ (n : ℕ) (files : ℕ → File) where
     header-begins l q = rw (q ∙ behind [] d (wordOf n) 0 4 refl refl l)
 
     -- then one entry more
-    pub header-turn : (i : ℕ) {there : Bool} {end : ℕ} {piece out next : List ℕ} → 4 + 8 * (i + 1) ≤ length d → out ≡ fronts i ++ drop (4 + 8 * i) d → piece ≡ bytesOf (files i) → there ≡ isPresent (files i) → end ≡ headerSize n + startOf (piecesOf files) i → next ≡ written (written out (4 + 8 * i) (wordOf (cond there end 0))) (8 + 8 * i) (wordOf (length piece)) → next ≡ fronts (i + 1) ++ drop (4 + 8 * (i + 1)) d
+    pub header-turn : (i : ℕ) {there : Bool} {end : ℕ} {piece out next : List ℕ} → 4 + 8 * (i + 1) ≤ length d → out ≡ fronts i ++ drop (4 + 8 * i) d → piece ≡ bytesOf (files i) → there ≡ isPresent (files i) → end ≡ headerSize n + pieceStart (piecesOf files) i → next ≡ written (written out (4 + 8 * i) (wordOf (cond there end 0))) (8 + 8 * i) (wordOf (length piece)) → next ≡ fronts (i + 1) ++ drop (4 + 8 * (i + 1)) d
     header-turn i l q p t e w =
-        rw (w, q, p, t, e, joined-next (entryOf n files) i, entry-shown i)
-        (two-behind (fronts i) d (4 + 8 * i) (8 + 8 * i) (4 + 8 * (i + 1)) _ _ (front-length i) (omega arith) (omega arith) l ∙ ap (λ r. r ++ drop (4 + 8 * (i + 1)) d) (regrouped (wordOf n) (joined (entryOf n files) i) _ _))
+        rw (w, q, p, t, e, joined-next (headerPair n files) i, entry-shown i)
+        (two-behind (fronts i) d (4 + 8 * i) (8 + 8 * i) (4 + 8 * (i + 1)) _ _ (front-length i) (omega arith) (omega arith) l ∙ ap (λ r. r ++ drop (4 + 8 * (i + 1)) d) (regrouped (wordOf n) (joined (headerPair n files) i) _ _))
 
     pub header-ends : (i : ℕ) {e out : List ℕ} → i ≡ n → e ≡ written d 0 (wordOf n) → out ≡ fronts i ++ drop (4 + 8 * i) e → out ≡ headerOf n files ++ drop (headerSize n) d
     unfolding headerOf headerSize
     header-ends i h q w = w ∙ rw (h, q) (ap (λ r. fronts n ++ r) (written-back d 0 (wordOf n) (4 + 8 * n) (omega (arith, word-length n))))
 
-    pub files-begin : d ≡ take (headerSize n) d ++ joined (piecesOf files) 0 ++ drop (headerSize n + startOf (piecesOf files) 0) d
-    unfolding joined startOf
+    pub files-begin : d ≡ take (headerSize n) d ++ joined (piecesOf files) 0 ++ drop (headerSize n + pieceStart (piecesOf files) 0) d
+    unfolding joined pieceStart
     files-begin = rw (append-nil (take (headerSize n) d), add-zero (headerSize n)) (sym (take-append-drop (headerSize n) d))
 
-    pub files-turn : (i : ℕ) {end : ℕ} {piece out next : List ℕ} → i < n → bundleLength n files ≤ length d → out ≡ take (headerSize n) d ++ joined (piecesOf files) i ++ drop (headerSize n + startOf (piecesOf files) i) d → piece ≡ bytesOf (files i) → end ≡ headerSize n + startOf (piecesOf files) i → next ≡ written out end piece → next ≡ take (headerSize n) d ++ joined (piecesOf files) (i + 1) ++ drop (headerSize n + startOf (piecesOf files) (i + 1)) d
+    pub files-turn : (i : ℕ) {end : ℕ} {piece out next : List ℕ} → i < n → bundleLength n files ≤ length d → out ≡ take (headerSize n) d ++ joined (piecesOf files) i ++ drop (headerSize n + pieceStart (piecesOf files) i) d → piece ≡ bytesOf (files i) → end ≡ headerSize n + pieceStart (piecesOf files) i → next ≡ written out end piece → next ≡ take (headerSize n) d ++ joined (piecesOf files) (i + 1) ++ drop (headerSize n + pieceStart (piecesOf files) (i + 1)) d
     unfolding piecesOf bundleLength
     files-turn i l h q p e w =
         rw (w, q, p, e, joined-next (piecesOf files) i, start-next (piecesOf files) i, ← append-assoc (take (headerSize n) d) (joined (piecesOf files) i) (bytesOf (files i)))
-        (behind (take (headerSize n) d ++ joined (piecesOf files) i) d (bytesOf (files i)) (headerSize n + startOf (piecesOf files) i) (headerSize n + (startOf (piecesOf files) i + length (bytesOf (files i))))
+        (behind (take (headerSize n) d ++ joined (piecesOf files) i) d (bytesOf (files i)) (headerSize n + pieceStart (piecesOf files) i) (headerSize n + (pieceStart (piecesOf files) i + length (bytesOf (files i))))
         (omega (arith, length-append (take (headerSize n) d) (joined (piecesOf files) i), length-take-le (headerSize n) d (omega arith), joined-length (piecesOf files) i)) (omega arith) (omega (arith, start-end (piecesOf files) i n l)))
 
-    pub files-end : (i : ℕ) {out : List ℕ} → i ≡ n → out ≡ take (headerSize n) d ++ joined (piecesOf files) i ++ drop (headerSize n + startOf (piecesOf files) i) d → out ≡ take (headerSize n) d ++ joined (piecesOf files) n ++ drop (bundleLength n files) d
+    pub files-end : (i : ℕ) {out : List ℕ} → i ≡ n → out ≡ take (headerSize n) d ++ joined (piecesOf files) i ++ drop (headerSize n + pieceStart (piecesOf files) i) d → out ≡ take (headerSize n) d ++ joined (piecesOf files) n ++ drop (bundleLength n files) d
     unfolding bundleLength
     files-end i e q = rw e at q
 
     -- the header and the files together
     rest-kept : drop (bundleLength n files) (headerOf n files ++ drop (headerSize n) d) ≡ drop (bundleLength n files) d
     unfolding bundleLength
-    rest-kept = rw (← header-length n files) (drop-append-add (headerOf n files) (drop (length (headerOf n files)) d) (startOf (piecesOf files) n) ∙ drop-drop (startOf (piecesOf files) n) (length (headerOf n files)) d)
+    rest-kept = rw (← header-length n files) (drop-append-add (headerOf n files) (drop (length (headerOf n files)) d) (pieceStart (piecesOf files) n) ∙ drop-drop (pieceStart (piecesOf files) n) (length (headerOf n files)) d)
 
     pub both-written : {a b : List ℕ} → a ≡ headerOf n files ++ drop (headerSize n) d → b ≡ take (headerSize n) a ++ joined (piecesOf files) n ++ drop (bundleLength n files) a → b ≡ outputOf n files d
     unfolding outputOf bundleOf

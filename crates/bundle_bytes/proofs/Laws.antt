@@ -16,7 +16,7 @@ use lib.ListN.{length, getD, set, take, drop, length-append, length-drop, take-a
 use lib.Seq.{paste, paste-suc, sets-eq, take-all, take-length, take-at, drop-at, take-append-seam, drop-append-seam, take-append-le, drop-append-le, drop-append-add, drop-drop, getD-take, getD-drop, length-take-le, take-take}
 use lib.Dec.{leb, eqb}
 use Rattle.bundle_bytes.specs.Words.{wordAt, wordOf}
-use Rattle.bundle_bytes.specs.Pieces.{joined, startOf, changed, written}
+use Rattle.bundle_bytes.specs.Pieces.{joined, pieceStart, changed, written}
 
 -- ---- a part of two lists, one behind the other
 module _ {A : Type 0} (a n : ℕ) (xs ys : List A) where
@@ -232,39 +232,39 @@ module _ (g : ℕ → List ℕ) where
   unfolding joined
   joined-next n = rw (add-one n)
 
-  pub start-next : (n : ℕ) → startOf g (n + 1) ≡ startOf g n + length (g n)
-  unfolding startOf
+  pub start-next : (n : ℕ) → pieceStart g (n + 1) ≡ pieceStart g n + length (g n)
+  unfolding pieceStart
   start-next n = rw (add-one n)
 
-  pub joined-length : (n : ℕ) → length (joined g n) ≡ startOf g n
-  unfolding joined startOf
+  pub joined-length : (n : ℕ) → length (joined g n) ≡ pieceStart g n
+  unfolding joined pieceStart
   joined-length zero = refl
   joined-length (suc n) = length-append (joined g n) (g n) ∙ ap (λ k. k + length (g n)) (joined-length n)
 
   -- a piece ends where the next one starts, and before all later ones
-  pub start-end : (i n : ℕ) → i < n → startOf g i + length (g i) ≤ startOf g n
-  unfolding startOf
+  pub start-end : (i n : ℕ) → i < n → pieceStart g i + length (g i) ≤ pieceStart g n
+  unfolding pieceStart
   start-end i zero l = omega arith
   start-end i (suc n) l = ⊎-elim (λ e. rw e (omega arith)) (λ h. omega (arith, start-end i n h)) (last-or-before i n l)
 
-  pub start-grows : (i n : ℕ) → i ≤ n → startOf g i ≤ startOf g n
+  pub start-grows : (i n : ℕ) → i ≤ n → pieceStart g i ≤ pieceStart g n
   start-grows i n l = ⊎-elim (λ e. rw e (omega arith)) (λ h. omega (arith, start-end i n h)) (eq-or-lt-of-le l)
 
   -- each piece is the part from its start on
-  pub joined-part : (i n : ℕ) → i < n → take (length (g i)) (drop (startOf g i) (joined g n)) ≡ g i
+  pub joined-part : (i n : ℕ) → i < n → take (length (g i)) (drop (pieceStart g i) (joined g n)) ≡ g i
   unfolding joined
   joined-part i zero l = absurd (omega arith)
   joined-part i (suc n) l =
-      ⊎-elim (λ e. rw e (ap (take (length (g n))) (drop-at (joined g n) (g n) (startOf g n) (joined-length n)) ∙ take-length (g n)))
-      (λ h. part-front (startOf g i) (length (g i)) (joined g n) (g n) (omega (arith, joined-length n, start-end i n h)) ∙ joined-part i n h) (last-or-before i n l)
+      ⊎-elim (λ e. rw e (ap (take (length (g n))) (drop-at (joined g n) (g n) (pieceStart g n) (joined-length n)) ∙ take-length (g n)))
+      (λ h. part-front (pieceStart g i) (length (g i)) (joined g n) (g n) (omega (arith, joined-length n, start-end i n h)) ∙ joined-part i n h) (last-or-before i n l)
 
   -- also with bytes before all pieces, and behind them
-  pub joined-part-behind : (p : List ℕ) (i n : ℕ) → i < n → take (length (g i)) (drop (length p + startOf g i) (p ++ joined g n)) ≡ g i
-  joined-part-behind p i n l = part-behind (startOf g i) (length (g i)) p (joined g n) ∙ joined-part i n l
+  pub joined-part-behind : (p : List ℕ) (i n : ℕ) → i < n → take (length (g i)) (drop (length p + pieceStart g i) (p ++ joined g n)) ≡ g i
+  joined-part-behind p i n l = part-behind (pieceStart g i) (length (g i)) p (joined g n) ∙ joined-part i n l
 
-  pub joined-part-within : (p q : List ℕ) (i n : ℕ) → i < n → take (length (g i)) (drop (length p + startOf g i) (p ++ joined g n ++ q)) ≡ g i
+  pub joined-part-within : (p q : List ℕ) (i n : ℕ) → i < n → take (length (g i)) (drop (length p + pieceStart g i) (p ++ joined g n ++ q)) ≡ g i
   joined-part-within p q i n l =
-      part-front (length p + startOf g i) (length (g i)) (p ++ joined g n) q (omega (arith, length-append p (joined g n), joined-length n, start-end i n l)) ∙ joined-part-behind p i n l
+      part-front (length p + pieceStart g i) (length (g i)) (p ++ joined g n) q (omega (arith, length-append p (joined g n), joined-length n, start-end i n l)) ∙ joined-part-behind p i n l
 
 -- the same pieces stand the same
 module _ (g h : ℕ → List ℕ) where
@@ -273,22 +273,22 @@ module _ (g h : ℕ → List ℕ) where
   joined-same zero e = refl
   joined-same (suc n) e = rw (joined-same n (λ i l. e i (omega arith)), e n (omega arith))
 
-  pub startOf-same : (n : ℕ) → ((i : ℕ) → i < n → g i ≡ h i) → startOf g n ≡ startOf h n
+  pub startOf-same : (n : ℕ) → ((i : ℕ) → i < n → g i ≡ h i) → pieceStart g n ≡ pieceStart h n
   startOf-same n e = sym (joined-length g n) ∙ ap length (joined-same n e) ∙ joined-length h n
 
 -- with another piece at place k
 module _ (g : ℕ → List ℕ) (k : ℕ) (v : List ℕ) where
   -- all up to it start where they did
-  pub start-before : (i : ℕ) → i ≤ k → startOf (changed g k v) i ≡ startOf g i
+  pub start-before : (i : ℕ) → i ≤ k → pieceStart (changed g k v) i ≡ pieceStart g i
   start-before i l = startOf-same (changed g k v) g i (λ j h. changed-other g k v j (omega arith))
 
   -- and all behind it by as much later as it is longer
-  pub start-changed : (n : ℕ) → k < n → startOf (changed g k v) n + length (g k) ≡ startOf g n + length v
-  unfolding startOf
+  pub start-changed : (n : ℕ) → k < n → pieceStart (changed g k v) n + length (g k) ≡ pieceStart g n + length v
+  unfolding pieceStart
   start-changed zero l = absurd (omega arith)
   start-changed (suc n) l =
       ⊎-elim last
       (λ h. omega (arith, start-changed n h, ap length (changed-other g k v n (omega arith)))) (last-or-before k n l)
     where
-      last : k ≡ n → startOf (changed g k v) n + length (changed g k v n) + length (g k) ≡ startOf g n + length (g n) + length v
+      last : k ≡ n → pieceStart (changed g k v) n + length (changed g k v n) + length (g k) ≡ pieceStart g n + length (g n) + length v
       last e = rw (← e, changed-same g k v, start-before k (omega arith)) (omega arith)

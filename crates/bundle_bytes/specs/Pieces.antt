@@ -11,9 +11,9 @@ joined piece zero = []
 joined piece (suc n) = joined piece n ++ piece n
 
 -- where piece n then starts: the lengths of all before it, together
-unfoldable pub startOf : (ℕ → List ℕ) → ℕ → ℕ
-startOf piece zero = 0
-startOf piece (suc n) = startOf piece n + length (piece n)
+unfoldable pub pieceStart : (ℕ → List ℕ) → ℕ → ℕ
+pieceStart piece zero = 0
+pieceStart piece (suc n) = pieceStart piece n + length (piece n)
 
 -- the same things with another one at place k
 unfoldable pub changed : {A : Type 0} → (ℕ → A) → ℕ → A → ℕ → A

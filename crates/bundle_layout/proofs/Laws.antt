@@ -14,31 +14,31 @@ use lib.Dec.{ltb, eqb}
 use Rattle.json_bytes.proofs.Laws.{by-test, both-left, both-right}
 use Rattle.parts.proofs.Laws.{part-is}
 use Rattle.bundle_bytes.specs.Words.{wordAt, wordOf}
-use Rattle.bundle_bytes.specs.Pieces.{joined, startOf, changed}
+use Rattle.bundle_bytes.specs.Pieces.{joined, pieceStart, changed}
 use Rattle.parts.specs.Files.{File, Left, Given, isPresent, bytesOf}
 use Rattle.bundle_bytes.proofs.Laws.{word-length, joined-length, startOf-same, start-changed}
-use Rattle.bundle_layout.specs.Bundle.{headerSize, offsetAt, lengthAt, isOmitted, endOf, standsRight, laidOutFrom, laidOut, bundleFault, partAt, fileAt, lookupFault, piecesOf, entryOf, headerOf, bundleOf, bundleLength}
+use Rattle.bundle_layout.specs.Bundle.{headerSize, offsetAt, lengthAt, isOmitted, endOf, standsRight, laidOutFrom, laidOut, bundleFault, partAt, fileAt, lookupFault, piecesOf, headerPair, headerOf, bundleOf, bundleLength}
 use Rattle.bundle_layout.specs.Change.{filesAfter, tryFault, makeFault}
 
 -- ---- lengths
 module _ (n : ℕ) (files : ℕ → File) where
-  pub entry-length : (k : ℕ) → length (entryOf n files k) ≡ 8
-  unfolding entryOf wordOf
+  pub entry-length : (k : ℕ) → length (headerPair n files k) ≡ 8
+  unfolding headerPair wordOf
   entry-length k = go (isPresent (files k))
     where
-      go : (t : Bool) → length (cond t (wordOf (headerSize n + startOf (piecesOf files) k) ++ wordOf (length (bytesOf (files k)))) (wordOf 0 ++ wordOf 0)) ≡ 8
+      go : (t : Bool) → length (cond t (wordOf (headerSize n + pieceStart (piecesOf files) k) ++ wordOf (length (bytesOf (files k)))) (wordOf 0 ++ wordOf 0)) ≡ 8
       go true = refl
       go false = refl
 
-  pub entry-start : (k : ℕ) → startOf (entryOf n files) k ≡ 8 * k
-  unfolding startOf
+  pub entry-start : (k : ℕ) → pieceStart (headerPair n files) k ≡ 8 * k
+  unfolding pieceStart
   entry-start zero = refl
   entry-start (suc k) = omega (arith, entry-start k, entry-length k)
 
   pub header-length : length (headerOf n files) ≡ headerSize n
   unfolding headerOf headerSize
   header-length =
-      omega (arith, length-append (wordOf n) (joined (entryOf n files) n), word-length n, joined-length (entryOf n files) n, entry-start n)
+      omega (arith, length-append (wordOf n) (joined (headerPair n files) n), word-length n, joined-length (headerPair n files) n, entry-start n)
 
   pub bundle-length : length (bundleOf n files) ≡ bundleLength n files
   unfolding bundleOf bundleLength
@@ -155,8 +155,8 @@ module _ (n : ℕ) (s : List ℕ) (accepted : bundleFault n s ≡ 0) where
   part-length k l =
       rw (bytes-taken k l) (length-take-le (lengthAt s k) (drop (endOf n s k) s) (omega (arith, length-drop (endOf n s k) s, end-within k l)))
 
-  pub end-start : (k : ℕ) → k ≤ n → endOf n s k ≡ headerSize n + startOf (piecesOf (fileAt s)) k
-  unfolding endOf startOf piecesOf
+  pub end-start : (k : ℕ) → k ≤ n → endOf n s k ≡ headerSize n + pieceStart (piecesOf (fileAt s)) k
+  unfolding endOf pieceStart piecesOf
   end-start zero l = omega arith
   end-start (suc k) l = omega (arith, end-start k (omega arith), part-length k l)
 

@@ -14,10 +14,10 @@ use lib.Dec.{eqb}
 use Rattle.json_bytes.proofs.Laws.{by-test}
 use Rattle.parts.proofs.Laws.{part-is}
 use Rattle.bundle_bytes.specs.Words.{wordAt, wordOf}
-use Rattle.bundle_bytes.specs.Pieces.{joined, startOf, changed}
+use Rattle.bundle_bytes.specs.Pieces.{joined, pieceStart, changed}
 use Rattle.parts.specs.Files.{File, Left, Given, isPresent, bytesOf}
 use Rattle.bundle_bytes.proofs.Laws.{Bytes, word-length, word-in-part, word-again, joined-same, startOf-same, start-end, joined-part-behind, joined-part-within}
-use Rattle.bundle_layout.specs.Bundle.{headerSize, offsetAt, lengthAt, isOmitted, endOf, standsRight, laidOut, bundleFault, partAt, fileAt, piecesOf, entryOf, headerOf, bundleOf, bundleLength}
+use Rattle.bundle_layout.specs.Bundle.{headerSize, offsetAt, lengthAt, isOmitted, endOf, standsRight, laidOut, bundleFault, partAt, fileAt, piecesOf, headerPair, headerOf, bundleOf, bundleLength}
 use Rattle.bundle_layout.specs.Change.{filesAfter, tryFault, makeFault, outputOf, output}
 use Rattle.bundle_layout.specs.Put.{emptyBundle, putAll, isListed}
 use Rattle.bundle_layout.proofs.Laws.{laid-by, omitted-file, present-file, entry-length, entry-start, header-length, bundle-length, fault-size, fault-count, omitted-offset, omitted-length, present-offset, bytes-taken, part-length, end-start, valid-length, try-none, try-fine, make-none}
@@ -28,13 +28,13 @@ module _ (n : ℕ) (files others : ℕ → File) (same : (i : ℕ) → i < n →
   unfolding piecesOf
   pieces-same i l = ap bytesOf (same i l)
 
-  entry-same : (i : ℕ) → i < n → entryOf n files i ≡ entryOf n others i
-  unfolding entryOf
+  entry-same : (i : ℕ) → i < n → headerPair n files i ≡ headerPair n others i
+  unfolding headerPair
   entry-same i l = rw (same i l, startOf-same (piecesOf files) (piecesOf others) i (λ j h. pieces-same j (omega arith)))
 
   pub bundle-same : bundleOf n files ≡ bundleOf n others
   unfolding bundleOf headerOf
-  bundle-same = rw (joined-same (entryOf n files) (entryOf n others) n entry-same, joined-same (piecesOf files) (piecesOf others) n pieces-same)
+  bundle-same = rw (joined-same (headerPair n files) (headerPair n others) n entry-same, joined-same (piecesOf files) (piecesOf others) n pieces-same)
 
   pub length-same : bundleLength n files ≡ bundleLength n others
   length-same = sym (bundle-length n files) ∙ ap length bundle-same ∙ bundle-length n others
@@ -54,20 +54,20 @@ module _ (s : List ℕ) (a : ℕ) (u v : List ℕ) (m k : ℕ) (lu : length u �
       drop-take (suc m) n (x ∷ l) = rw suc-add (drop-take m n l)
 
 -- where the bytes of a file stand
-pub bytes-back : (n : ℕ) (files : ℕ → File) (i : ℕ) → i < n → take (length (bytesOf (files i))) (drop (headerSize n + startOf (piecesOf files) i) (bundleOf n files)) ≡ bytesOf (files i)
+pub bytes-back : (n : ℕ) (files : ℕ → File) (i : ℕ) → i < n → take (length (bytesOf (files i))) (drop (headerSize n + pieceStart (piecesOf files) i) (bundleOf n files)) ≡ bytesOf (files i)
 unfolding bundleOf piecesOf
 bytes-back n files i l = rw (header-length n files) at (joined-part-behind (piecesOf files) (headerOf n files) i n l)
 
 module _ (n : ℕ) (files : ℕ → File) (fits : bundleLength n files < 2 ^ 32) where
   -- the offset that is written of a file, and its length
   offsetOf : ℕ → ℕ
-  offsetOf i = cond (isPresent (files i)) (headerSize n + startOf (piecesOf files) i) 0
+  offsetOf i = cond (isPresent (files i)) (headerSize n + pieceStart (piecesOf files) i) 0
 
-  entry-words : (i : ℕ) → entryOf n files i ≡ wordOf (offsetOf i) ++ wordOf (length (bytesOf (files i)))
-  unfolding entryOf offsetOf isPresent bytesOf
+  entry-words : (i : ℕ) → headerPair n files i ≡ wordOf (offsetOf i) ++ wordOf (length (bytesOf (files i)))
+  unfolding headerPair offsetOf isPresent bytesOf
   entry-words i = go (files i)
     where
-      go : (f : File) → cond (isPresent f) (wordOf (headerSize n + startOf (piecesOf files) i) ++ wordOf (length (bytesOf f))) (wordOf 0 ++ wordOf 0) ≡ wordOf (cond (isPresent f) (headerSize n + startOf (piecesOf files) i) 0) ++ wordOf (length (bytesOf f))
+      go : (f : File) → cond (isPresent f) (wordOf (headerSize n + pieceStart (piecesOf files) i) ++ wordOf (length (bytesOf f))) (wordOf 0 ++ wordOf 0) ≡ wordOf (cond (isPresent f) (headerSize n + pieceStart (piecesOf files) i) 0) ++ wordOf (length (bytesOf f))
       go Left = refl
       go (Given b) = refl
 
@@ -75,22 +75,22 @@ module _ (n : ℕ) (files : ℕ → File) (fits : bundleLength n files < 2 ^ 32)
   unfolding bundleOf headerOf bundleLength headerSize
   count-back =
       word-in-part (bundleOf n files) 0 n (omega arith)
-      (rw append-assoc (take-at (wordOf n) (joined (entryOf n files) n ++ joined (piecesOf files) n) 4 (word-length n)))
+      (rw append-assoc (take-at (wordOf n) (joined (headerPair n files) n ++ joined (piecesOf files) n) 4 (word-length n)))
 
   entry-back : (i : ℕ) → i < n → take (4 + 4) (drop (4 + 8 * i) (bundleOf n files)) ≡ wordOf (offsetOf i) ++ wordOf (length (bytesOf (files i)))
   unfolding bundleOf headerOf
   entry-back i l =
-      rw (entry-length n files i, word-length n, entry-start n files i, entry-words i) at (joined-part-within (entryOf n files) (wordOf n) (joined (piecesOf files) n) i n l)
+      rw (entry-length n files i, word-length n, entry-start n files i, entry-words i) at (joined-part-within (headerPair n files) (wordOf n) (joined (piecesOf files) n) i n l)
 
   -- the lengths, and with them the offsets, are small
-  length-small : (i : ℕ) → i < n → headerSize n + startOf (piecesOf files) i + length (bytesOf (files i)) ≤ bundleLength n files
+  length-small : (i : ℕ) → i < n → headerSize n + pieceStart (piecesOf files) i + length (bytesOf (files i)) ≤ bundleLength n files
   unfolding bundleLength piecesOf
   length-small i l = omega (arith, start-end (piecesOf files) i n l)
 
   offset-small : (i : ℕ) → i < n → offsetOf i < 2 ^ 32
   unfolding offsetOf
   offset-small i l =
-      by-test (λ x. x < 2 ^ 32) (isPresent (files i)) (headerSize n + startOf (piecesOf files) i) 0
+      by-test (λ x. x < 2 ^ 32) (isPresent (files i)) (headerSize n + pieceStart (piecesOf files) i) 0
       (λ e. omega (arith, length-small i l)) (λ e. omega (arith, length-small i l))
 
   offset-back : (i : ℕ) → i < n → offsetAt (bundleOf n files) i ≡ offsetOf i
@@ -114,7 +114,7 @@ module _ (n : ℕ) (files : ℕ → File) (fits : bundleLength n files < 2 ^ 32)
     unfolding isOmitted offsetOf isPresent bytesOf
     left-back e = rw (offset-back i l, length-back i l, e)
 
-    given-place : (b : List ℕ) → files i ≡ Given b → offsetAt (bundleOf n files) i ≡ headerSize n + startOf (piecesOf files) i
+    given-place : (b : List ℕ) → files i ≡ Given b → offsetAt (bundleOf n files) i ≡ headerSize n + pieceStart (piecesOf files) i
     unfolding offsetOf isPresent
     given-place b e = rw (offset-back i l, e)
 
@@ -125,7 +125,7 @@ module _ (n : ℕ) (files : ℕ → File) (fits : bundleLength n files < 2 ^ 32)
     part-back : (b : List ℕ) → files i ≡ Given b → partAt (bundleOf n files) i ≡ b
     unfolding partAt bytesOf
     part-back b e =
-        rw (given-place b e, length-back i l, part-is (bundleOf n files) (headerSize n + startOf (piecesOf files) i) (headerSize n + startOf (piecesOf files) i + length (bytesOf (files i))) (omega arith) (omega (arith, length-small i l, bundle-length n files)), add-sub-cancel-left, bytes-back n files i l, e)
+        rw (given-place b e, length-back i l, part-is (bundleOf n files) (headerSize n + pieceStart (piecesOf files) i) (headerSize n + pieceStart (piecesOf files) i + length (bytesOf (files i))) (omega arith) (omega (arith, length-small i l, bundle-length n files)), add-sub-cancel-left, bytes-back n files i l, e)
 
     pub read-back : fileAt (bundleOf n files) i ≡ files i
     unfolding fileAt
@@ -136,8 +136,8 @@ module _ (n : ℕ) (files : ℕ → File) (fits : bundleLength n files < 2 ^ 32)
         go (Given b) e = rw (given-back b e, part-back b e)
 
   -- the bundle is laid out
-  end-back : (k : ℕ) → k ≤ n → endOf n (bundleOf n files) k ≡ headerSize n + startOf (piecesOf files) k
-  unfolding endOf startOf piecesOf
+  end-back : (k : ℕ) → k ≤ n → endOf n (bundleOf n files) k ≡ headerSize n + pieceStart (piecesOf files) k
+  unfolding endOf pieceStart piecesOf
   end-back zero l = omega arith
   end-back (suc k) l = omega (arith, end-back k (omega arith), length-back k l)
 
@@ -163,29 +163,29 @@ bundle-accepted n files l =
 
 -- ---- an accepted bundle is written again as it was
 -- pieces that stand in a list one behind the other, joined
-joined-taken : (g : ℕ → List ℕ) (s : List ℕ) (a n : ℕ) → ((i : ℕ) → i < n → take (length (g i)) (drop (a + startOf g i) s) ≡ g i) → joined g n ≡ take (startOf g n) (drop a s)
-unfolding joined startOf
+joined-taken : (g : ℕ → List ℕ) (s : List ℕ) (a n : ℕ) → ((i : ℕ) → i < n → take (length (g i)) (drop (a + pieceStart g i) s) ≡ g i) → joined g n ≡ take (pieceStart g n) (drop a s)
+unfolding joined pieceStart
 joined-taken g s a zero f = refl
 joined-taken g s a (suc n) f =
-    rw (take-add (startOf g n) (length (g n)) (drop a s), ← joined-taken g s a n (λ i l. f i (omega arith)), drop-drop (startOf g n) a s, f n (omega arith))
+    rw (take-add (pieceStart g n) (length (g n)) (drop a s), ← joined-taken g s a n (λ i l. f i (omega arith)), drop-drop (pieceStart g n) a s, f n (omega arith))
 
 module _ (n : ℕ) (s : List ℕ) (accepted : bundleFault n s ≡ 0) where
-  pieces-again : joined (piecesOf (fileAt s)) n ≡ take (startOf (piecesOf (fileAt s)) n) (drop (headerSize n) s)
+  pieces-again : joined (piecesOf (fileAt s)) n ≡ take (pieceStart (piecesOf (fileAt s)) n) (drop (headerSize n) s)
   unfolding piecesOf
   pieces-again =
       joined-taken (piecesOf (fileAt s)) s (headerSize n) n
       (λ i l. rw (← end-start n s accepted i (omega arith), part-length n s accepted i l) (sym (bytes-taken n s accepted i l)))
 
   module _ (bs : Bytes s) where
-    entry-again : (i : ℕ) → i < n → take 8 (drop (4 + 8 * i) s) ≡ entryOf n (fileAt s) i
-    unfolding entryOf headerSize offsetAt lengthAt isPresent
+    entry-again : (i : ℕ) → i < n → take 8 (drop (4 + 8 * i) s) ≡ headerPair n (fileAt s) i
+    unfolding headerPair headerSize offsetAt lengthAt isPresent
     entry-again i l =
         take-add 4 4 (drop (4 + 8 * i) s) ∙ rw (drop-drop 4 (4 + 8 * i) s, ahead, word-again s (4 + 8 * i) bs (omega (arith, fault-size n s accepted .0)), word-again s (8 + 8 * i) bs (omega (arith, fault-size n s accepted .0))) (go (isOmitted s i) refl)
       where
         ahead : 4 + 8 * i + 4 ≡ 8 + 8 * i
         ahead = omega arith
 
-        go : (t : Bool) → isOmitted s i ≡ t → wordOf (offsetAt s i) ++ wordOf (lengthAt s i) ≡ entryOf n (fileAt s) i
+        go : (t : Bool) → isOmitted s i ≡ t → wordOf (offsetAt s i) ++ wordOf (lengthAt s i) ≡ headerPair n (fileAt s) i
         go true e = rw (omitted-file s i e, omitted-offset s i e, omitted-length s i e)
         go false e = rw (part-length n s accepted i l, present-file s i e, ← end-start n s accepted i (omega arith), present-offset n s accepted i l e)
 
@@ -193,12 +193,12 @@ module _ (n : ℕ) (s : List ℕ) (accepted : bundleFault n s ≡ 0) where
     unfolding headerOf headerSize
     header-again =
         rw (take-add 4 (8 * n) s, word-again s 0 bs (omega (arith, fault-size n s accepted .0)), fault-count n s accepted, ← entry-start n (fileAt s) n)
-        (ap (λ r. wordOf n ++ r) (joined-taken (entryOf n (fileAt s)) s 4 n (λ i l. rw (entry-length n (fileAt s) i, entry-start n (fileAt s) i) (entry-again i l))))
+        (ap (λ r. wordOf n ++ r) (joined-taken (headerPair n (fileAt s)) s 4 n (λ i l. rw (entry-length n (fileAt s) i, entry-start n (fileAt s) i) (entry-again i l))))
 
     pub written-again : bundleOf n (fileAt s) ≡ s
     unfolding bundleOf bundleLength
     written-again =
-        rw (header-again, pieces-again, ← take-add (headerSize n) (startOf (piecesOf (fileAt s)) n) s) (take-all (bundleLength n (fileAt s)) s (omega (arith, valid-length n s accepted)))
+        rw (header-again, pieces-again, ← take-add (headerSize n) (pieceStart (piecesOf (fileAt s)) n) s) (take-all (bundleLength n (fileAt s)) s (omega (arith, valid-length n s accepted)))
 
 -- so an accepted bundle is one of its files alone
 pub same-files : (n : ℕ) (s t : List ℕ) → bundleFault n s ≡ 0 → bundleFault n t ≡ 0 → Bytes s → Bytes t → ((i : ℕ) → i < n → fileAt s i ≡ fileAt t i) → s ≡ t
@@ -246,8 +246,8 @@ module _ (n : ℕ) (s : List ℕ) (k : ℕ) (f : File) where
         (λ e. omega (arith, length-append (bundleOf n (filesAfter s k f)) (drop (bundleLength n (filesAfter s k f)) out), bundle-length n (filesAfter s k f), length-drop (bundleLength n (filesAfter s k f)) out, make-none n s k f (length out) (eqb-true (makeFault n s k f (length out)) 0 e) .1)) (λ e. refl)
 
 -- ---- files put one at a time
-starts-under : (g h : ℕ → List ℕ) (n : ℕ) → ((i : ℕ) → i < n → length (g i) ≤ length (h i)) → startOf g n ≤ startOf h n
-unfolding startOf
+starts-under : (g h : ℕ → List ℕ) (n : ℕ) → ((i : ℕ) → i < n → length (g i) ≤ length (h i)) → pieceStart g n ≤ pieceStart h n
+unfolding pieceStart
 starts-under g h zero f = omega arith
 starts-under g h (suc n) f = omega (arith, starts-under g h n (λ i l. f i (omega arith)), f n (omega arith))
 

@@ -6,7 +6,7 @@ use lib.ListN.{length}
 use lib.Dec.{ltb, eqb}
 use Rattle.parts.specs.Part.{partOf}
 use Rattle.bundle_bytes.specs.Words.{wordAt, wordOf}
-use Rattle.bundle_bytes.specs.Pieces.{joined, startOf}
+use Rattle.bundle_bytes.specs.Pieces.{joined, pieceStart}
 use Rattle.parts.specs.Files.{File, Left, Given, isPresent, bytesOf}
 
 -- ---- The layout
@@ -66,17 +66,17 @@ partAsked n s k = cond (eqb (lookupFault n s k) 0) (bytesOf (fileAt s k)) []
 unfoldable pub piecesOf : (ℕ → File) → ℕ → List ℕ
 piecesOf files k = bytesOf (files k)
 
-unfoldable pub entryOf : ℕ → (ℕ → File) → ℕ → List ℕ
-entryOf n files k =
-    cond (isPresent (files k)) (wordOf (headerSize n + startOf (piecesOf files) k) ++ wordOf (length (bytesOf (files k))))
+unfoldable pub headerPair : ℕ → (ℕ → File) → ℕ → List ℕ
+headerPair n files k =
+    cond (isPresent (files k)) (wordOf (headerSize n + pieceStart (piecesOf files) k) ++ wordOf (length (bytesOf (files k))))
     (wordOf 0 ++ wordOf 0)
 
 unfoldable pub headerOf : ℕ → (ℕ → File) → List ℕ
-headerOf n files = wordOf n ++ joined (entryOf n files) n
+headerOf n files = wordOf n ++ joined (headerPair n files) n
 
 unfoldable pub bundleOf : ℕ → (ℕ → File) → List ℕ
 bundleOf n files = headerOf n files ++ joined (piecesOf files) n
 
 -- its length
 unfoldable pub bundleLength : ℕ → (ℕ → File) → ℕ
-bundleLength n files = headerSize n + startOf (piecesOf files) n
+bundleLength n files = headerSize n + pieceStart (piecesOf files) n

@@ -13,13 +13,13 @@ use Rattle.parts.specs.Files.{bytesOf}
 use Rattle.table_rows.proofs.Laws.{upFrom, each}
 use Rattle.contract_fields.specs.Fields.{contractFieldsOf, contractTables}
 use Rattle.table_file.specs.File.{Expected, expectedFrom}
-use Rattle.rule_shape.specs.Rule.{firstOf, ruleFrom}
+use Rattle.rule_shape.specs.Rule.{firstFileOf, ruleFrom}
 use Rattle.rule_reason.specs.Reason.{searchedIn}
 use Rattle.contract_rules.specs.Rules.{contractRules}
 use Rattle.contract_rules.proofs.Opens.{open-contract-rows}
 use Rattle.bundle_layout.specs.Bundle.{bundleFault, offsetAt, fileAt}
 use Rattle.reason_answer.specs.declared.Shown.{Shown}
-use Rattle.gate_marks.specs.Gate.{gateOf, ruleOf}
+use Rattle.gate_marks.specs.Gate.{gateOf, ruleOfMark}
 use Rattle.gate_marks.specs.Marks.{markAt}
 use Rattle.reason.specs.Reason.{brokenBy}
 use Rattle.reason.proofs.Laws.{shown}
@@ -36,13 +36,13 @@ abbrev none : Expected
 none = expectedFrom 0 false [] []
 
 fits-at : ℕ → Bool
-fits-at i = leb (fieldsEnd (getD contractRules i (ruleFrom [] 0))) (length (formFields (getD contractFiles (firstOf (getD contractRules i (ruleFrom [] 0))) none .form)))
+fits-at i = leb (fieldsEnd (getD contractRules i (ruleFrom [] 0))) (length (formFields (getD contractFiles (firstFileOf (getD contractRules i (ruleFrom [] 0))) none .form)))
 
 fits-below : map fits-at (upFrom 0 15) ≡ map (λ i. true) (upFrom 0 15)
-unfolding fits-at upFrom fieldsEnd formFields firstOf contractFiles free contractFieldsOf contractTables open-contract-rows
+unfolding fits-at upFrom fieldsEnd formFields firstFileOf contractFiles free contractFieldsOf contractTables open-contract-rows
 fits-below = refl
 
-pub contract-fits : (m : ℕ) → 4 ≤ m → m < 19 → fieldsEnd (ruleOf contract m) ≤ length (formFields (contract .expected (firstOf (ruleOf contract m)) .form))
+pub contract-fits : (m : ℕ) → 4 ≤ m → m < 19 → fieldsEnd (ruleOfMark contract m) ≤ length (formFields (contract .expected (firstFileOf (ruleOfMark contract m)) .form))
 unfolding contract gateOf fits-at
 contract-fits m l h = rw files-are (leb-true _ _ (each fits-at (λ i. true) 15 fits-below (m - 4) (omega arith)))
 
@@ -50,12 +50,12 @@ module _ (s : List ℕ) (fine : bundleFault 4 s ≡ 0) (m : ℕ) (l : 4 ≤ m) (
   abbrev what : Shown
   what = shown contract (offsetAt s) (fileAt s) m
 
-  pub contract-told : reasonOf contract s m ≡ brokenBy (searchedIn (ruleOf contract m)) what
+  pub contract-told : reasonOf contract s m ≡ brokenBy (searchedIn (ruleOfMark contract m)) what
   contract-told = broken-told contract s (rw files-are fine) m (rw files-are l) e (rw marks-are h)
 
   pub contract-explained : Explains contract (offsetAt s) (fileAt s) m what
   contract-explained = explained contract (offsetAt s) (fileAt s) m (rw files-are l) e (contract-fits m l h)
 
-  pub contract-value : BytesOf (contract-explained .means .gives (contract-explained .r) (contract-explained .shows .inside) .members) (bytesOf (fileAt s (firstOf (ruleOf contract m)))) (what .field) (valueShown s (reasonOf contract s m))
+  pub contract-value : BytesOf (contract-explained .means .gives (contract-explained .r) (contract-explained .shows .inside) .members) (bytesOf (fileAt s (firstFileOf (ruleOfMark contract m)))) (what .field) (valueShown s (reasonOf contract s m))
   contract-value =
       rw (value-told contract s (rw files-are fine) m (rw files-are l) e (rw marks-are h)) (bytes-shown contract s (rw files-are fine) m (rw files-are l) e what contract-explained)

@@ -15,10 +15,10 @@ use Rattle.gate_marks.specs.Marks.{markRead}
 use Rattle.schedule.specs.Schedule.{free}
 use Rattle.contract.specs.Contract.{contractFiles, contract}
 use Rattle.reason_meaning.specs.Cases.{fileIn}
-use Rattle.contract_meaning.specs.Cases.{reading, tableHere, markHere, linesFrom, linesOf, element, under, one, two, three, account, Case, cases, headers}
+use Rattle.contract_meaning.specs.Cases.{reading, tableHere, markHere, linesFrom, linesOf, element, under, one, twoRecords, threeRecords, account, Case, cases, headers}
 
 pub contract-cases : map (λ (c : Case). linesOf (c .files)) cases ≡ map (λ (c : Case). c .stated) cases
-unfolding open-files open-rules open-contract-rows gateOf free contractFiles contract bytesOf markRead fileIn reading tableHere markHere linesFrom linesOf element under one two three account cases
+unfolding open-files open-rules open-contract-rows gateOf free contractFiles contract bytesOf markRead fileIn reading tableHere markHere linesFrom linesOf element under one twoRecords threeRecords account cases
 contract-cases = refl
 
 -- "1 reads 36 in place of 164, 2 reads 4"

@@ -12,9 +12,9 @@ use Rattle.mark_numbers.specs.declared.Mark.{Mark}
 use Rattle.table_file.specs.Table.{TableRead}
 use Rattle.table_file.specs.File.{fileOf}
 use Rattle.rule_cells.specs.Cells.{Table, table}
-use Rattle.rule_shape.specs.Rule.{firstOf, secondOf}
+use Rattle.rule_shape.specs.Rule.{firstFileOf, secondFileOf}
 use Rattle.rules.specs.Judge.{ruleBreak, isJudged, markOf}
-use Rattle.gate_marks.specs.Gate.{ruleOf}
+use Rattle.gate_marks.specs.Gate.{ruleOfMark}
 use Rattle.gate_marks.specs.Marks.{markRead}
 use Rattle.contract_fields.specs.Fields.{contractFieldsOf}
 use Rattle.contract.specs.Contract.{contract}
@@ -30,9 +30,9 @@ module _ (files : List (ℕ × String)) where
 
   unfoldable pub markHere : ℕ → Mark
   markHere m =
-      let rule = ruleOf contract m in
+      let rule = ruleOfMark contract m in
       cond (ltb m 4) (markRead (reading m .read))
-      (markOf (isJudged (reading (firstOf rule) .read .kind) (reading (secondOf rule) .read .kind)) (ruleBreak [] [] rule (tableHere (firstOf rule)) (tableHere (secondOf rule))))
+      (markOf (isJudged (reading (firstFileOf rule) .read .kind) (reading (secondFileOf rule) .read .kind)) (ruleBreak [] [] rule (tableHere (firstFileOf rule)) (tableHere (secondFileOf rule))))
 
   -- of n marks from mark m on, the number, kind, place and companion of each that doesn't hold
   unfoldable pub linesFrom : ℕ → ℕ → List (List ℕ)
@@ -57,11 +57,11 @@ under id = ",\"ParentID\":\"" ++ id ++ "\""
 unfoldable pub one : String → String
 one a = "[" ++ a ++ "]"
 
-unfoldable pub two : String → String → String
-two a b = "[" ++ a ++ "," ++ b ++ "]"
+unfoldable pub twoRecords : String → String → String
+twoRecords a b = "[" ++ a ++ "," ++ b ++ "]"
 
-unfoldable pub three : String → String → String → String
-three a b c = "[" ++ a ++ "," ++ b ++ "," ++ c ++ "]"
+unfoldable pub threeRecords : String → String → String → String
+threeRecords a b c = "[" ++ a ++ "," ++ b ++ "," ++ c ++ "]"
 
 -- one control account on an element of each
 unfoldable pub account : String → String → String
@@ -81,22 +81,22 @@ line m kind place companion = m ∷ kind ∷ place ∷ companion ∷ []
 unfoldable pub cases : List Case
 cases =
     -- 9.1: levels of WBS and OBS, then parents of WBS and OBS
-    case ((1, two (element "1" "A" top) (element "1" "B" top)) ∷ (2, two (element "1" "A" top) (element "1" "B" top)) ∷ []) (line 13 1 2 0 ∷ line 14 1 2 0 ∷ line 15 1 2 0 ∷ line 16 1 2 0 ∷ [])
+    case ((1, twoRecords (element "1" "A" top) (element "1" "B" top)) ∷ (2, twoRecords (element "1" "A" top) (element "1" "B" top)) ∷ []) (line 13 1 2 0 ∷ line 14 1 2 0 ∷ line 15 1 2 0 ∷ line 16 1 2 0 ∷ [])
     -- 9.2: any file may be omitted; a present one of length 0 is 11 at 0
     ∷ case [] []
     ∷ case ((0, "") ∷ []) (line 0 11 0 0 ∷ line 4 2 0 0 ∷ line 8 2 0 0 ∷ [])
     -- 9.3: the first has Level 1
     ∷ case ((1, one (element "2" "A" top)) ∷ []) (line 13 1 1 0 ∷ [])
     -- 9.4: the first alone has no parent, whatever its Level; a second Level 1 has none and breaks the rule
-    ∷ case ((1, two (element "1" "A" top) (element "1" "B" (under "A"))) ∷ []) (line 13 1 2 0 ∷ line 15 1 2 0 ∷ [])
+    ∷ case ((1, twoRecords (element "1" "A" top) (element "1" "B" (under "A"))) ∷ []) (line 13 1 2 0 ∷ line 15 1 2 0 ∷ [])
     -- 9.5: the companion is the parent's record, also at Level 1
-    ∷ case ((1, two (element "0" "A" top) (element "1" "B" top)) ∷ []) (line 13 1 1 0 ∷ line 15 1 2 1 ∷ [])
+    ∷ case ((1, twoRecords (element "0" "A" top) (element "1" "B" top)) ∷ []) (line 13 1 1 0 ∷ line 15 1 2 1 ∷ [])
     -- 9.6: ParentID has two marks
-    ∷ case ((1, three (element "1" "A" top) (element "2" "B" (under "a")) (element "2" "C" (under "B"))) ∷ []) (line 15 1 3 1 ∷ [])
+    ∷ case ((1, threeRecords (element "1" "A" top) (element "2" "B" (under "a")) (element "2" "C" (under "B"))) ∷ []) (line 15 1 3 1 ∷ [])
     -- 9.7: children by Level and order, whatever ParentID says and even if levels are broken
-    ∷ case ((1, two (element "1" "A" top) (element "3" "B" top)) ∷ (2, one (element "1" "O" top)) ∷ (3, account "a" "o") ∷ []) (line 13 1 2 0 ∷ line 15 1 2 1 ∷ line 17 1 1 0 ∷ [])
+    ∷ case ((1, twoRecords (element "1" "A" top) (element "3" "B" top)) ∷ (2, one (element "1" "O" top)) ∷ (3, account "a" "o") ∷ []) (line 13 1 2 0 ∷ line 15 1 2 1 ∷ line 17 1 1 0 ∷ [])
     -- 9.8: any one of several elements with the ID; with no match the leaf rule holds
-    ∷ case ((1, two (element "1" "A" top) (element "2" "a" (under "A"))) ∷ (3, account "A" "x") ∷ []) (line 5 1 2 1 ∷ line 12 1 1 0 ∷ line 17 1 1 0 ∷ [])
+    ∷ case ((1, twoRecords (element "1" "A" top) (element "2" "a" (under "A"))) ∷ (3, account "A" "x") ∷ []) (line 5 1 2 1 ∷ line 12 1 1 0 ∷ line 17 1 1 0 ∷ [])
     -- 9.9: which marks read WBS
     ∷ case ((1, "[") ∷ []) (line 1 11 1 0 ∷ line 5 2 0 0 ∷ line 9 2 0 0 ∷ line 11 2 0 0 ∷ line 13 2 0 0 ∷ line 15 2 0 0 ∷ line 17 2 0 0 ∷ [])
     -- 9.11: dates end here, and don't finish

@@ -9,7 +9,7 @@ use lib.Dec.{ltb}
 use Rattle.table_rows.proofs.Laws.{all}
 use Rattle.contract_fields.specs.Fields.{contractFieldsOf}
 use Rattle.rule_shape.specs.declared.Rule.{Rule}
-use Rattle.rule_shape.specs.Rule.{firstOf, secondOf, rulesIn}
+use Rattle.rule_shape.specs.Rule.{firstFileOf, secondFileOf, rulesIn}
 use Rattle.rule_shape.proofs.Laws.{rows-back}
 use Rattle.schedule_rules.proofs.Facts.{isNamedIn}
 use Rattle.contract_rules.specs.Rules.{contractRules, contractRuleRows}
@@ -30,7 +30,7 @@ rules-count = refl
 
 -- ---- Every rule reads files from 0 to 3, and every name is one of document 000's, which has no values here
 unfoldable pub isWithin : Rule → Bool
-isWithin rule = ltb (firstOf rule) 4 && ltb (secondOf rule) 4
+isWithin rule = ltb (firstFileOf rule) 4 && ltb (secondFileOf rule) 4
 
 pub rules-within : all isWithin contractRules ≡ true
 unfolding open-contract-rows all isWithin

@@ -5,8 +5,8 @@ use mathlib.Core.List.{flatten}
 use Rattle.table_name.proofs.Opens.{open-names}
 use Rattle.contract_fields.proofs.Opens.{open-contract-fields}
 use Rattle.rule_shape.proofs.Opens.{open-shapes}
-use Rattle.contract_rules.specs.Rules.{no, primaryKey, foreignKey, levels, parents, leaf, contractRules, contractRuleRows}
+use Rattle.contract_rules.specs.Rules.{contractField, primaryKey, foreignKey, treeLevels, treeParents, leaf, contractRules, contractRuleRows}
 
 unfoldable pub open-contract-rows : Bool
-unfolding flatten open-names open-contract-fields open-shapes no primaryKey foreignKey levels parents leaf contractRules contractRuleRows
+unfolding flatten open-names open-contract-fields open-shapes contractField primaryKey foreignKey treeLevels treeParents leaf contractRules contractRuleRows
 open-contract-rows = true

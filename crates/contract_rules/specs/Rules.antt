@@ -4,7 +4,7 @@
 use Prim.Native.Nat.{ℕ}
 use Prim.Native.String.{String}
 use mathlib.Core.List.{List, [], _∷_, map, flatten}
-use Rattle.table_rows.specs.Ascii.{codes}
+use Rattle.json_bytes.specs.Ascii.{codes}
 use Rattle.table_name.specs.Name.{indexOf}
 use Rattle.contract_fields.specs.Fields.{contractFieldsOf}
 use Rattle.rule_shape.specs.declared.Rule.{Rule}
@@ -12,26 +12,26 @@ use Rattle.rule_shape.specs.declared.Rule.the-variants.{KeyOf, TreeLevels, Tree
 use Rattle.rule_shape.specs.Rule.{key, condition, rowOf}
 
 -- a field by its name, counted within its table; their count for a name that is none
-unfoldable pub no : ℕ → String → ℕ
-no file name = indexOf (codes name) (contractFieldsOf file)
+unfoldable pub contractField : ℕ → String → ℕ
+contractField file name = indexOf (codes name) (contractFieldsOf file)
 
 -- ---- Shapes, with their fields by name
 -- "Primary Key", one ID
 unfoldable pub primaryKey : ℕ → String → Rule
-primaryKey file a = KeyOf file (key (no file a) 1 0 0 0 0)
+primaryKey file a = KeyOf file (key (contractField file a) 1 0 0 0 0)
 
 -- "Foreign Keys"
 unfoldable pub foreignKey : ℕ → String → ℕ → String → Rule
-foreignKey file a other b = TargetIn file (no file a) (condition 0 0 0 0) other (no other b)
+foreignKey file a other b = TargetIn file (contractField file a) (condition 0 0 0 0) other (contractField other b)
 
-unfoldable pub levels : ℕ → String → Rule
-levels file level = TreeLevels file (no file level)
+unfoldable pub treeLevels : ℕ → String → Rule
+treeLevels file level = TreeLevels file (contractField file level)
 
-unfoldable pub parents : ℕ → String → String → String → Rule
-parents file parent level id = TreeParent file (no file parent) (no file level) (no file id)
+unfoldable pub treeParents : ℕ → String → String → String → Rule
+treeParents file parent level id = TreeParent file (contractField file parent) (contractField file level) (contractField file id)
 
 unfoldable pub leaf : ℕ → String → ℕ → String → String → Rule
-leaf file a other id level = LeafIn file (no file a) other (no other id) (no other level)
+leaf file a other id level = LeafIn file (contractField file a) other (contractField other id) (contractField other level)
 
 -- ---- Marks 4 to 18: files 0 Subcontractors, 1 WBS, 2 OBS, 3 ControlAccounts
 unfoldable pub contractRules : List Rule
@@ -48,10 +48,10 @@ contractRules =
     foreignKey 3 "WBSElementID" 1 "ID" ∷
     foreignKey 3 "OBSElementID" 2 "ID" ∷
     -- 13–16, "levels and parents for WBS and OBS"
-    levels 1 "Level" ∷
-    levels 2 "Level" ∷
-    parents 1 "ParentID" "Level" "ID" ∷
-    parents 2 "ParentID" "Level" "ID" ∷
+    treeLevels 1 "Level" ∷
+    treeLevels 2 "Level" ∷
+    treeParents 1 "ParentID" "Level" "ID" ∷
+    treeParents 2 "ParentID" "Level" "ID" ∷
     -- 17, 18, "the two leaf rules"
     leaf 3 "WBSElementID" 1 "ID" "Level" ∷
     leaf 3 "OBSElementID" 2 "ID" "Level" ∷

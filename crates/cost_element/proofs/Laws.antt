@@ -13,7 +13,7 @@ use Rattle.json_same.specs.declared.Case.the-variants.{Folded}
 use Rattle.json_same.proofs.Laws.{same-sym, same-trans}
 use Rattle.mark_numbers.specs.Marks.{listOf}
 use Rattle.mark_numbers.proofs.Laws.{list-at, list-same}
-use Rattle.rule_cells.specs.Cells.{Table, table, startOf, textOf, sameText, isWord, firstFrom, firstOf}
+use Rattle.rule_cells.specs.Cells.{Table, table, startOf, textOf, sameText, isWord, firstFrom, firstThat}
 use Rattle.rule_cells.proofs.First.{First, first-found, first-none, none-first}
 use Rattle.rule_key.proofs.Laws.{both-ways}
 use Rattle.rule_key.specs.declared.Key.{Key}
@@ -45,8 +45,8 @@ first-from-same f g (suc n) i h =
     step true e = refl
     step false e = e
 
-pub first-same : (f g : ℕ → Bool) (n : ℕ) → ((i : ℕ) → i < n → f i ≡ g i) → firstOf f n ≡ firstOf g n
-unfolding firstOf
+pub first-same : (f g : ℕ → Bool) (n : ℕ) → ((i : ℕ) → i < n → f i ≡ g i) → firstThat f n ≡ firstThat g n
+unfolding firstThat
 first-same f g n h = first-from-same f g n 0 (λ i l m. h i (omega arith))
 
 one-less : (k : ℕ) → suc k - 1 ≡ k
@@ -66,7 +66,7 @@ module _ (t : Table) (u : Table) (n r e : ℕ) where
     found-is : isFound u l (sumsOf u resourceID n) (inKeyOrder u (keyOf l) n) (textOf t r assignedID) ≡ isOf t u n r e
     unfolding isOf
     found-is =
-        found-exactly u l n (textOf t r assignedID) ∙ ap (λ (f : ℕ → Bool). ltb 0 (firstOf f n)) (fun-ext has-element)
+        found-exactly u l n (textOf t r assignedID) ∙ ap (λ (f : ℕ → Bool). ltb 0 (firstThat f n)) (fun-ext has-element)
 
   -- ---- and with none
   none-is : firstOfElement u n e ≡ 0 → false ≡ isOf t u n r e
@@ -130,6 +130,6 @@ found-in-order t u firsts sums order scratch sums′ order′ key n last fit k a
     e ∙ rw (x, y)
 
 -- a resource whose element is a name is one of the element with that name
-pub named-as : (u : Table) (n e : ℕ) {name : List ℕ} (x : ℕ) → x ≡ firstOf (λ (q : ℕ). isWord u q elementID name) n → name ≡ elementName e → x ≡ firstOfElement u n e
+pub named-as : (u : Table) (n e : ℕ) {name : List ℕ} (x : ℕ) → x ≡ firstThat (λ (q : ℕ). isWord u q elementID name) n → name ≡ elementName e → x ≡ firstOfElement u n e
 unfolding firstOfElement
 named-as u n e x f is = f ∙ rw is

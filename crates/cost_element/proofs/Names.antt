@@ -6,7 +6,7 @@ use mathlib.Core.List.{List, flatten}
 use native.Mathlib.Omega.{arith}
 use lib.ListN.{length}
 use Rattle.parts.specs.Part.{partOf}
-use Rattle.table_rows.specs.Rows.{valueStart, valueEnd, valueTextAt}
+use Rattle.table_rows.specs.Rows.{valueNameStart, valueEnd, valueTextAt}
 use Rattle.table_fields.specs.Enumerations.{enumerations, valuesOf}
 use Rattle.table_fields.specs.Flat.{valuePlaces, valueTexts, firstValue}
 use Rattle.table_fields.proofs.Facts.{value-back}
@@ -22,7 +22,7 @@ unfolding open-fields flatten
 four-names = refl
 
 -- a name, as it is cut out of the lent texts
-pub name-is : (e : ℕ) → e < 4 → {places texts name : List ℕ} {from to : ℕ} → places ≡ valuePlaces → texts ≡ valueTexts → from ≡ valueStart places (47 + e) → to ≡ valueEnd places (47 + e) → name ≡ partOf texts from to → name ≡ elementName e
+pub name-is : (e : ℕ) → e < 4 → {places texts name : List ℕ} {from to : ℕ} → places ≡ valuePlaces → texts ≡ valueTexts → from ≡ valueNameStart places (47 + e) → to ≡ valueEnd places (47 + e) → name ≡ partOf texts from to → name ≡ elementName e
 unfolding elementName valueTextAt
 name-is e h p t f g n =
     n ∙ rw (f, g, p, t, ← first-name) (value-back 9 e (omega (arith, four-names)))

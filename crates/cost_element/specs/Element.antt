@@ -7,7 +7,7 @@ use lib.ListN.{length, getD}
 use lib.Dec.{ltb, leb}
 use Rattle.mark_numbers.specs.Marks.{listOf}
 use Rattle.table_fields.specs.Enumerations.{valuesOf}
-use Rattle.rule_cells.specs.Cells.{Table, sameText, isWord, firstOf}
+use Rattle.rule_cells.specs.Cells.{Table, sameText, isWord, firstThat}
 
 -- ResourceID of an assignment; ID and ElementOfCostID of a resource
 abbrev pub assignedID : ℕ
@@ -31,11 +31,11 @@ unfoldable pub hasElement : Table → ℕ → Table → ℕ → ℕ → Bool
 hasElement t r u e q = sameText t r assignedID u q resourceID && isWord u q elementID (elementName e)
 
 unfoldable pub isOf : Table → Table → ℕ → ℕ → ℕ → Bool
-isOf t u n r e = ltb 0 (firstOf (hasElement t r u e) n)
+isOf t u n r e = ltb 0 (firstThat (hasElement t r u e) n)
 
 -- its element, from 1 to 4; 0 where there is none. An accepted set has one resource of an ID, so that there is just one
 unfoldable pub elementOf : Table → Table → ℕ → ℕ → ℕ
-elementOf t u n r = firstOf (isOf t u n r) elementCount
+elementOf t u n r = firstThat (isOf t u n r) elementCount
 
 -- a list with the elements of as many assignments as it has places; as it was, where u has more resources than a table has records
 unfoldable pub elementsAfter : Table → Table → ℕ → List ℕ → List ℕ

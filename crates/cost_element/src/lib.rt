@@ -7,7 +7,7 @@ ghost use lib.ListN.{length};
 ghost use lib.Dec.{leb};
 ghost use Rattle.json_chars.specs.Chars.{charsAt};
 ghost use Rattle.mark_numbers.specs.Marks.{listOf};
-ghost use Rattle.rule_cells.specs.Cells.{table, textOf, isWord, firstOf};
+ghost use Rattle.rule_cells.specs.Cells.{table, textOf, isWord, firstThat};
 ghost use Rattle.key_order.specs.Order.{sumsOf, inKeyOrder, areFit};
 ghost use Rattle.key_lookup.specs.Lookup.{keyOf};
 ghost use Rattle.cost_element.specs.Element.{assignedID, resourceID, elementID, elementsAfter};
@@ -38,7 +38,7 @@ const FIRST_NAME: usize = 47;
 
 // The first resource whose element is a name, counted from 1; 0 for none.
 fn first_named(u: &[u8], cells: &[u32], width: usize, records: usize, name: &[u8]) -> usize
-    ensures { λ x. ⌜ x ≡ firstOf (λ (q : ℕ). isWord (table (now (u .entry)) (now (cells .entry)) width 0) q elementID (now (name .entry))) records ⌝ }
+    ensures { λ x. ⌜ x ≡ firstThat (λ (q : ℕ). isWord (table (now (u .entry)) (now (cells .entry)) width 0) q elementID (now (name .entry))) records ⌝ }
 {
     let mut q = 0;
     while q < records {

@@ -13,7 +13,7 @@ use lib.Dec.{ltb, eqb}
 use Rattle.parts.specs.Part.{partOf}
 use Rattle.parts.proofs.Laws.{part-is}
 use Rattle.parts.specs.Files.{File, Left, Given, newFile}
-use Rattle.standing.specs.Standing.{sliceOf, standing, placed}
+use Rattle.standing.specs.Standing.{sliceOf, standing, standingWith}
 use Rattle.standing.proofs.Laws.{slice-first, slice-second, slice-third, placed-length, placed-fits, placed-there, placed-nowhere, placed-other}
 use Rattle.mark_numbers.specs.Marks.{Marks, freshMarks, freshOver}
 use Rattle.mark_numbers.proofs.Laws.{Long, lists-long, fresh-over}
@@ -43,12 +43,12 @@ Stands desk shared stand n = (new : List ℕ) (i : ℕ) → i < n → standing d
 
 -- as the code puts one down
 pub put-as : (list s : List ℕ) (number k : ℕ) {which from size : ℕ} {omitted : Bool} {last : List ℕ} → omitted ≡ isOmitted s k → which ≡ cond omitted 0 number → from ≡ offsetAt s k → size ≡ lengthAt s k
-    → last ≡ cond (ltb k (length list / 3)) (placed list k which from (from + size)) list → last ≡ cond (ltb k (length list / 3)) (placed list k (cond (isOmitted s k) 0 number) (offsetAt s k) (offsetAt s k + lengthAt s k)) list
+    → last ≡ cond (ltb k (length list / 3)) (standingWith list k which from (from + size)) list → last ≡ cond (ltb k (length list / 3)) (standingWith list k (cond (isOmitted s k) 0 number) (offsetAt s k) (offsetAt s k + lengthAt s k)) list
 put-as list s number k o w f z e = e ∙ rw (w, o, f, z)
 
 module _ (desk shared list last s : List ℕ) (number k : ℕ) (room : k < length list / 3)
-    (put : last ≡ cond (ltb k (length list / 3)) (placed list k (cond (isOmitted s k) 0 number) (offsetAt s k) (offsetAt s k + lengthAt s k)) list) where
-  put-is : last ≡ placed list k (cond (isOmitted s k) 0 number) (offsetAt s k) (offsetAt s k + lengthAt s k)
+    (put : last ≡ cond (ltb k (length list / 3)) (standingWith list k (cond (isOmitted s k) 0 number) (offsetAt s k) (offsetAt s k + lengthAt s k)) list) where
+  put-is : last ≡ standingWith list k (cond (isOmitted s k) 0 number) (offsetAt s k) (offsetAt s k + lengthAt s k)
   put-is = put ∙ placed-fits list k _ _ _ room
 
   pub stand-long : length last ≡ length list
@@ -59,7 +59,7 @@ module _ (desk shared list last s : List ℕ) (number k : ℕ) (room : k < lengt
   unfolding fileAt partAt
   stand-there some new slice = rw put-is (go (isOmitted s k))
     where
-      go : (t : Bool) → standing desk shared new (placed list k (cond t 0 number) (offsetAt s k) (offsetAt s k + lengthAt s k)) k ≡ cond t Left (Given (partOf s (offsetAt s k) (offsetAt s k + lengthAt s k)))
+      go : (t : Bool) → standing desk shared new (standingWith list k (cond t 0 number) (offsetAt s k) (offsetAt s k + lengthAt s k)) k ≡ cond t Left (Given (partOf s (offsetAt s k) (offsetAt s k + lengthAt s k)))
       go true = placed-nowhere list k 0 _ _ room desk shared new refl
       go false = placed-there list k number _ _ room desk shared new some ∙ ap (λ a. Given (partOf a (offsetAt s k) (offsetAt s k + lengthAt s k))) slice
 
@@ -70,12 +70,12 @@ module _ (desk shared list last s : List ℕ) (number k : ℕ) (room : k < lengt
       (stand-there some new (slice new) ∙ is)
 
 module _ (desk shared list last : List ℕ) (k : ℕ) (room : k < length list / 3) (before : Stands desk shared list k) {t : Bool} (t-is : t ≡ isShared k) where
-  pub stand-shared : t ≡ true → last ≡ cond (ltb k (length list / 3)) (placed list k (cond (isOmitted shared k) 0 2) (offsetAt shared k) (offsetAt shared k + lengthAt shared k)) list → Stands desk shared last (k + 1)
+  pub stand-shared : t ≡ true → last ≡ cond (ltb k (length list / 3)) (standingWith list k (cond (isOmitted shared k) 0 2) (offsetAt shared k) (offsetAt shared k + lengthAt shared k)) list → Stands desk shared last (k + 1)
   unfolding joinedSet
   stand-shared e put =
       stand-next desk shared list last shared 2 k room put (λ z. omega arith) (λ new. slice-second desk shared new 2 refl) (rw (← t-is, e)) before
 
-  pub stand-own : t ≡ false → last ≡ cond (ltb k (length list / 3)) (placed list k (cond (isOmitted desk k) 0 1) (offsetAt desk k) (offsetAt desk k + lengthAt desk k)) list → Stands desk shared last (k + 1)
+  pub stand-own : t ≡ false → last ≡ cond (ltb k (length list / 3)) (standingWith list k (cond (isOmitted desk k) 0 1) (offsetAt desk k) (offsetAt desk k + lengthAt desk k)) list → Stands desk shared last (k + 1)
   unfolding joinedSet
   stand-own e put =
       stand-next desk shared list last desk 1 k room put (λ z. omega arith) (λ new. slice-first desk shared new 1 refl) (rw (← t-is, e)) before
@@ -87,18 +87,18 @@ whole-part new =
     part-is new 0 (length new) (omega arith) (omega arith) ∙ rw n (take-all (length new) new (omega arith))
 
 module _ (desk shared new list last : List ℕ) {which : ℕ} (k : ℕ) (present : Bool) (room : 20 ≤ length list / 3) (small : k < 20) (before : Stands desk shared list 20)
-    (which-is : which ≡ cond present 3 0) (put : last ≡ cond (ltb k (length list / 3)) (placed list k which 0 (length new)) list) where
-  new-put : last ≡ placed list k (cond present 3 0) 0 (length new)
+    (which-is : which ≡ cond present 3 0) (put : last ≡ cond (ltb k (length list / 3)) (standingWith list k which 0 (length new)) list) where
+  new-put : last ≡ standingWith list k (cond present 3 0) 0 (length new)
   new-put = put ∙ placed-fits list k which 0 (length new) (omega arith) ∙ rw which-is
 
-  new-there : standing desk shared new (placed list k (cond present 3 0) 0 (length new)) k ≡ newFile present new
+  new-there : standing desk shared new (standingWith list k (cond present 3 0) 0 (length new)) k ≡ newFile present new
   unfolding newFile
   new-there = go present
     where
       long : k < length list / 3
       long = omega arith
 
-      go : (t : Bool) → standing desk shared new (placed list k (cond t 3 0) 0 (length new)) k ≡ cond t (Given new) Left
+      go : (t : Bool) → standing desk shared new (standingWith list k (cond t 3 0) 0 (length new)) k ≡ cond t (Given new) Left
       go true =
           placed-there list k 3 0 (length new) long desk shared new (λ e. omega arith) ∙ ap (λ a. Given (partOf a 0 (length new))) (slice-third desk shared new 3 (λ e. omega arith) (λ e. omega arith)) ∙ ap Given (whole-part new)
       go false = placed-nowhere list k 0 0 (length new) long desk shared new refl
@@ -106,7 +106,7 @@ module _ (desk shared new list last : List ℕ) {which : ℕ} (k : ℕ) (present
   pub change-stands : (i : ℕ) → i < 20 → standing desk shared new last i ≡ changed (joinedSet desk shared) k (newFile present new) i
   change-stands i l = rw new-put (go (eqb i k) refl)
     where
-      go : (t : Bool) → eqb i k ≡ t → standing desk shared new (placed list k (cond present 3 0) 0 (length new)) i ≡ changed (joinedSet desk shared) k (newFile present new) i
+      go : (t : Bool) → eqb i k ≡ t → standing desk shared new (standingWith list k (cond present 3 0) 0 (length new)) i ≡ changed (joinedSet desk shared) k (newFile present new) i
       go true e = rw (eqb-true i k e) (new-there ∙ sym (changed-same (joinedSet desk shared) k (newFile present new)))
       go false e =
           placed-other list k _ _ _ desk shared new i (eqb-false i k e) ∙ before new i l ∙ sym (changed-miss (joinedSet desk shared) k (newFile present new) i e)
@@ -127,7 +127,7 @@ module _ (g : Gate) (files-are : g .files ≡ 20) (handed : Marks) (work : List 
   judged-cells scope e = judged-work g scope standing files handed work room same-below e
 
 module _ (g : Gate) (files-are : g .files ≡ 20) (handed : Marks) (work : List ℕ) (room : lentFault g (length work) handed ≡ 0) (desk shared new list last : List ℕ) {which : ℕ} (k : ℕ) (present : Bool)
-    (fits : 20 ≤ length list / 3) (small : k < 20) (before : Stands desk shared list 20) (which-is : which ≡ cond present 3 0) (put : last ≡ cond (ltb k (length list / 3)) (placed list k which 0 (length new)) list) where
+    (fits : 20 ≤ length list / 3) (small : k < 20) (before : Stands desk shared list 20) (which-is : which ≡ cond present 3 0) (put : last ≡ cond (ltb k (length list / 3)) (standingWith list k which 0 (length new)) list) where
   pub again-judged : {marks : Marks} {left : List ℕ} → marks ≡ marksAfter g (Change k) (standing desk shared new last) (length work) handed → left ≡ workAfterwards g (Change k) (standing desk shared new last) handed work
       → (marks ≡ changedMarks g k (changed (joinedSet desk shared) k (newFile present new)) handed) × (left ≡ workJudged g (Change k) (changed (joinedSet desk shared) k (newFile present new)) work)
   again-judged m w =

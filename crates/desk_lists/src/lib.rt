@@ -8,7 +8,7 @@ ghost use Prim.Native.Nat.{ℕ, _+_, _≤_, _<_, _/_};
 ghost use lib.ListN.{length};
 ghost use lib.Dec.{ltb};
 ghost use Rattle.parts.specs.Files.{newFile};
-ghost use Rattle.standing.specs.Standing.{standing, placed};
+ghost use Rattle.standing.specs.Standing.{standing, standingWith};
 ghost use Rattle.mark_numbers.specs.Marks.{marksIn};
 ghost use Rattle.bundle_bytes.specs.Pieces.{changed};
 ghost use Rattle.bundle_layout.specs.Bundle.{offsetAt, lengthAt, isOmitted};
@@ -46,7 +46,7 @@ fn slice_number(absent: bool, number: usize) -> usize
 
 // Puts down where file k of a bundle stands, by the number of the bundle's slice.
 fn stand_file(s: &[u8], number: usize, k: usize, stand: &mut [usize])
-    ensures { λ _. ⌜ now (stand .exit) ≡ cond (ltb k (length (now (stand .entry)) / 3)) (placed (now (stand .entry)) k (cond (isOmitted (now (s .entry)) k) 0 number) (offsetAt (now (s .entry)) k) (offsetAt (now (s .entry)) k + lengthAt (now (s .entry)) k)) (now (stand .entry)) ⌝ }
+    ensures { λ _. ⌜ now (stand .exit) ≡ cond (ltb k (length (now (stand .entry)) / 3)) (standingWith (now (stand .entry)) k (cond (isOmitted (now (s .entry)) k) 0 number) (offsetAt (now (s .entry)) k) (offsetAt (now (s .entry)) k + lengthAt (now (s .entry)) k)) (now (stand .entry)) ⌝ }
 {
     let from = offset_at(s, k);
     let to = from + length_at(s, k);

@@ -15,38 +15,38 @@ use Rattle.desks_calls.specs.Desks.{DesksAnswer}
 use Rattle.desks_calls.specs.Lent.{desksIn, desksOutputIn, desksLeft}
 use Rattle.both_desks.specs.declared.Refusals.{Refusals}
 use Rattle.both_desks.specs.Refusals.{refusalsOf}
-use Rattle.desks_c.specs.Calls.{whoseOf, fileHanded, callFault, desksCalled, refusalsLeft, sizeLeft, workCalled, outputCalled}
+use Rattle.desks_c.specs.Calls.{whoseOf, fileHanded, desksCallFault, desksCalled, refusalsLeft, sizeLeft, workCalled, desksOutputCalled}
 
 -- ---- the fault, by the tests that the code makes
 module _ (refusals size : List ℕ) (whose present : ℕ) where
-  pub fault-refusals : (length refusals ≡ 2 → ⊥) → 100 ≡ callFault refusals size whose present
-  unfolding callFault
+  pub fault-refusals : (length refusals ≡ 2 → ⊥) → 100 ≡ desksCallFault refusals size whose present
+  unfolding desksCallFault
   fault-refusals n = rw (ne-eqb (length refusals) 2 n)
 
   module _ (two : length refusals ≡ 2) where
-    pub fault-size : (length size ≡ 1 → ⊥) → 100 ≡ callFault refusals size whose present
-    unfolding callFault
+    pub fault-size : (length size ≡ 1 → ⊥) → 100 ≡ desksCallFault refusals size whose present
+    unfolding desksCallFault
     fault-size n = rw (eq-eqb (length refusals) 2 two, ne-eqb (length size) 1 n)
 
     module _ (one : length size ≡ 1) where
-      pub fault-whose : 2 < whose → 101 ≡ callFault refusals size whose present
-      unfolding callFault
+      pub fault-whose : 2 < whose → 101 ≡ desksCallFault refusals size whose present
+      unfolding desksCallFault
       fault-whose l = rw (eq-eqb (length refusals) 2 two, eq-eqb (length size) 1 one, lt-ltb 2 whose l)
 
       module _ (known : whose ≤ 2) where
-        pub fault-present : 1 < present → 101 ≡ callFault refusals size whose present
-        unfolding callFault
+        pub fault-present : 1 < present → 101 ≡ desksCallFault refusals size whose present
+        unfolding desksCallFault
         fault-present l =
             rw (eq-eqb (length refusals) 2 two, eq-eqb (length size) 1 one, le-ltb 2 whose known, lt-ltb 1 present l)
 
-        pub fault-none : present ≤ 1 → 0 ≡ callFault refusals size whose present
-        unfolding callFault
+        pub fault-none : present ≤ 1 → 0 ≡ desksCallFault refusals size whose present
+        unfolding desksCallFault
         fault-none l =
             rw (eq-eqb (length refusals) 2 two, eq-eqb (length size) 1 one, le-ltb 2 whose known, le-ltb 1 present l)
 
   -- a call without one has lists for what it puts down
-  pub lists-fit : {f : ℕ} → f ≡ callFault refusals size whose present → f ≡ 0 → (length refusals ≡ 2) × (length size ≡ 1)
-  unfolding callFault
+  pub lists-fit : {f : ℕ} → f ≡ desksCallFault refusals size whose present → f ≡ 0 → (length refusals ≡ 2) × (length size ≡ 1)
+  unfolding desksCallFault
   lists-fit is z =
       go (eqb (length refusals) 2) (eqb (length size) 1) (cond (ltb 2 whose) 101 (cond (ltb 1 present) 101 0)) refl refl (sym is ∙ z)
     where
@@ -56,7 +56,7 @@ module _ (refusals size : List ℕ) (whose present : ℕ) where
       go false u x p q z = absurd (omega arith)
 
 -- ---- what a call leaves
-module _ (a b shared : List ℕ) (handedA handedB : Marks) (whose file present : ℕ) (bytes refusals size work : List ℕ) {f : ℕ} (is : f ≡ callFault refusals size whose present) where
+module _ (a b shared : List ℕ) (handedA handedB : Marks) (whose file present : ℕ) (bytes refusals size work : List ℕ) {f : ℕ} (is : f ≡ desksCallFault refusals size whose present) where
   abbrev called : ℕ → ℕ → DesksAnswer
   called room fault = desksCalled fault a b shared (length work) handedA handedB whose file present bytes room
 
@@ -89,7 +89,7 @@ module _ (a b shared : List ℕ) (handedA handedB : Marks) (whose file present :
         (g .1 .0, (g .1 .1 .0, (r ∙ ap (λ (x : Refusals). set (set refusals 0 (x .a)) 1 (x .b)) (g .0), (s ∙ ap (λ (x : Refusals). set size 0 (x .size)) (g .0), g .1 .1 .1 ∙ ap (λ (x : Refusals). desksLeft schedule a b shared (whoseOf whose) file (fileHanded present bytes) room (x .a) (x .b) work) (g .0)))))
 
   abbrev fault : ℕ
-  fault = callFault refusals size whose present
+  fault = desksCallFault refusals size whose present
 
   -- ---- a try
   pub try-ill : (room : ℕ) → (f ≡ 0 → ⊥) → (f ≡ fault) × Left room f handedA handedB refusals size work
@@ -109,11 +109,11 @@ module _ (a b shared : List ℕ) (handedA handedB : Marks) (whose file present :
         × ((marksB ≡ called (length out) r .b .marks)
         × ((refused ≡ refusalsLeft r (called (length out) r) refusals)
         × ((long ≡ sizeLeft r (called (length out) r) size)
-        × ((written ≡ outputCalled r a b shared (length work) handedA handedB whose file present bytes out)
+        × ((written ≡ desksOutputCalled r a b shared (length work) handedA handedB whose file present bytes out)
         × (left ≡ workCalled r a b shared whose file present bytes (length out) (called (length out) r) work))))))
 
     pub make-ill : (f ≡ 0 → ⊥) → Made f handedA handedB refusals size out work
-    unfolding outputCalled
+    unfolding desksOutputCalled
     make-ill some =
         let e = left-ill (length out) some in
         (is, (e .0, (e .1 .0, (e .1 .1 .0, (e .1 .1 .1 .0, (rw (ne-eqb f 0 some), e .1 .1 .1 .1))))))
@@ -126,7 +126,7 @@ module _ (a b shared : List ℕ) (handedA handedB : Marks) (whose file present :
         × (left ≡ desksLeft schedule a b shared w file (fileHanded present bytes) (length out) (answer .a) (answer .b) work))))
         → (refused ≡ set (set refusals 0 (answer .a)) 1 (answer .b)) × (long ≡ set size 0 (answer .size))
         → Made 0 marksA marksB refused long written left
-    unfolding outputCalled
+    unfolding desksOutputCalled
     make-well none w-is h put =
         let e = left-well none w-is (length out) (h .0, (h .1 .0, (h .1 .1 .0, h .1 .1 .1 .1))) put in
         let o = rw w-is at (h .1 .1 .1 .0) in

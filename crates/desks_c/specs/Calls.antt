@@ -24,8 +24,8 @@ fileHanded present bytes = newFile (eqb present 1) bytes
 
 -- ---- A call's own fault, before every refusal of a desk: 100 where the list for both refusals is not of 2 or the one for the new
 -- bundle's length not of 1, then 101 where a number that chooses is none of those that it can be, or 0
-unfoldable pub callFault : List ℕ → List ℕ → ℕ → ℕ → ℕ
-callFault refusals size whose present =
+unfoldable pub desksCallFault : List ℕ → List ℕ → ℕ → ℕ → ℕ
+desksCallFault refusals size whose present =
     cond (eqb (length refusals) 2) (cond (eqb (length size) 1) (cond (ltb 2 whose) 101 (cond (ltb 1 present) 101 0)) 100) 100
 
 -- ---- By that fault, what both desks are answered for an output of so many bytes
@@ -46,6 +46,6 @@ unfoldable pub workCalled : ℕ → List ℕ → List ℕ → List ℕ → ℕ �
 workCalled fault a b shared whose file present bytes room x work =
     cond (eqb fault 0) (desksLeft schedule a b shared (whoseOf whose) file (fileHanded present bytes) room (x .a .refusal) (x .b .refusal) work) work
 
-unfoldable pub outputCalled : ℕ → List ℕ → List ℕ → List ℕ → ℕ → Marks → Marks → ℕ → ℕ → ℕ → List ℕ → List ℕ → List ℕ
-outputCalled fault a b shared lent handedA handedB whose file present bytes out =
+unfoldable pub desksOutputCalled : ℕ → List ℕ → List ℕ → List ℕ → ℕ → Marks → Marks → ℕ → ℕ → ℕ → List ℕ → List ℕ → List ℕ
+desksOutputCalled fault a b shared lent handedA handedB whose file present bytes out =
     cond (eqb fault 0) (desksOutputIn schedule a b shared lent handedA handedB (whoseOf whose) file (fileHanded present bytes) out) out

@@ -7,7 +7,7 @@ ghost use Rattle.mark_numbers.specs.Marks.{marksIn};
 ghost use Rattle.schedule.specs.Schedule.{schedule};
 ghost use Rattle.desks_calls.specs.Desks.{longEnough};
 ghost use Rattle.desks_calls.specs.Lent.{judgedJoinIn, joinLeft};
-ghost use Rattle.desks_c.specs.Calls.{whoseOf, callFault, desksCalled, refusalsLeft, sizeLeft, workCalled, outputCalled};
+ghost use Rattle.desks_c.specs.Calls.{whoseOf, desksCallFault, desksCalled, refusalsLeft, sizeLeft, workCalled, desksOutputCalled};
 use both_desks::Refusals;
 use both_desks::answer_lists;
 use both_desks::change_lists;
@@ -28,7 +28,7 @@ fn whose_of(number: u32) -> Whose
 
 // What is wrong with the numbers and lists of a call with a change, 100 or 101, or 0.
 fn call_fault(refusals: &[u32], size: &[usize], whose: u32, present: u32) -> u32
-    ensures { λ r. ⌜ r ≡ callFault (now (refusals .entry)) (now (size .entry)) whose present ⌝ }
+    ensures { λ r. ⌜ r ≡ desksCallFault (now (refusals .entry)) (now (size .entry)) whose present ⌝ }
 {
     if refusals.len() != 2 {
         return 100;
@@ -96,7 +96,7 @@ pub extern "C" fn knotsaddle_desks_try<'a>(
     size: &mut [usize],
     work: &mut [u32],
 ) -> u32
-    ensures { λ r. ⌜ r ≡ callFault (now (refusals .entry)) (now (size .entry)) whose present ⌝ }
+    ensures { λ r. ⌜ r ≡ desksCallFault (now (refusals .entry)) (now (size .entry)) whose present ⌝ }
     ensures { λ r. ⌜ marksIn (now («kinds_a» .exit)) (now («places_a» .exit)) (now («companions_a» .exit)) ≡ desksCalled r (now (a .entry)) (now (b .entry)) (now (shared .entry)) (length (now (work .entry))) (marksIn (now («kinds_a» .entry)) (now («places_a» .entry)) (now («companions_a» .entry))) (marksIn (now («kinds_b» .entry)) (now («places_b» .entry)) (now («companions_b» .entry))) whose file present (now («new_bytes» .entry)) longEnough .a .marks ⌝ }
     ensures { λ r. ⌜ marksIn (now («kinds_b» .exit)) (now («places_b» .exit)) (now («companions_b» .exit)) ≡ desksCalled r (now (a .entry)) (now (b .entry)) (now (shared .entry)) (length (now (work .entry))) (marksIn (now («kinds_a» .entry)) (now («places_a» .entry)) (now («companions_a» .entry))) (marksIn (now («kinds_b» .entry)) (now («places_b» .entry)) (now («companions_b» .entry))) whose file present (now («new_bytes» .entry)) longEnough .b .marks ⌝ }
     ensures { λ r. ⌜ now (refusals .exit) ≡ refusalsLeft r (desksCalled r (now (a .entry)) (now (b .entry)) (now (shared .entry)) (length (now (work .entry))) (marksIn (now («kinds_a» .entry)) (now («places_a» .entry)) (now («companions_a» .entry))) (marksIn (now («kinds_b» .entry)) (now («places_b» .entry)) (now («companions_b» .entry))) whose file present (now («new_bytes» .entry)) longEnough) (now (refusals .entry)) ⌝ }
@@ -150,12 +150,12 @@ pub extern "C" fn knotsaddle_desks_make<'a>(
     size: &mut [usize],
     work: &mut [u32],
 ) -> u32
-    ensures { λ r. ⌜ r ≡ callFault (now (refusals .entry)) (now (size .entry)) whose present ⌝ }
+    ensures { λ r. ⌜ r ≡ desksCallFault (now (refusals .entry)) (now (size .entry)) whose present ⌝ }
     ensures { λ r. ⌜ marksIn (now («kinds_a» .exit)) (now («places_a» .exit)) (now («companions_a» .exit)) ≡ desksCalled r (now (a .entry)) (now (b .entry)) (now (shared .entry)) (length (now (work .entry))) (marksIn (now («kinds_a» .entry)) (now («places_a» .entry)) (now («companions_a» .entry))) (marksIn (now («kinds_b» .entry)) (now («places_b» .entry)) (now («companions_b» .entry))) whose file present (now («new_bytes» .entry)) (length (now (out .entry))) .a .marks ⌝ }
     ensures { λ r. ⌜ marksIn (now («kinds_b» .exit)) (now («places_b» .exit)) (now («companions_b» .exit)) ≡ desksCalled r (now (a .entry)) (now (b .entry)) (now (shared .entry)) (length (now (work .entry))) (marksIn (now («kinds_a» .entry)) (now («places_a» .entry)) (now («companions_a» .entry))) (marksIn (now («kinds_b» .entry)) (now («places_b» .entry)) (now («companions_b» .entry))) whose file present (now («new_bytes» .entry)) (length (now (out .entry))) .b .marks ⌝ }
     ensures { λ r. ⌜ now (refusals .exit) ≡ refusalsLeft r (desksCalled r (now (a .entry)) (now (b .entry)) (now (shared .entry)) (length (now (work .entry))) (marksIn (now («kinds_a» .entry)) (now («places_a» .entry)) (now («companions_a» .entry))) (marksIn (now («kinds_b» .entry)) (now («places_b» .entry)) (now («companions_b» .entry))) whose file present (now («new_bytes» .entry)) (length (now (out .entry)))) (now (refusals .entry)) ⌝ }
     ensures { λ r. ⌜ now (size .exit) ≡ sizeLeft r (desksCalled r (now (a .entry)) (now (b .entry)) (now (shared .entry)) (length (now (work .entry))) (marksIn (now («kinds_a» .entry)) (now («places_a» .entry)) (now («companions_a» .entry))) (marksIn (now («kinds_b» .entry)) (now («places_b» .entry)) (now («companions_b» .entry))) whose file present (now («new_bytes» .entry)) (length (now (out .entry)))) (now (size .entry)) ⌝ }
-    ensures { λ r. ⌜ now (out .exit) ≡ outputCalled r (now (a .entry)) (now (b .entry)) (now (shared .entry)) (length (now (work .entry))) (marksIn (now («kinds_a» .entry)) (now («places_a» .entry)) (now («companions_a» .entry))) (marksIn (now («kinds_b» .entry)) (now («places_b» .entry)) (now («companions_b» .entry))) whose file present (now («new_bytes» .entry)) (now (out .entry)) ⌝ }
+    ensures { λ r. ⌜ now (out .exit) ≡ desksOutputCalled r (now (a .entry)) (now (b .entry)) (now (shared .entry)) (length (now (work .entry))) (marksIn (now («kinds_a» .entry)) (now («places_a» .entry)) (now («companions_a» .entry))) (marksIn (now («kinds_b» .entry)) (now («places_b» .entry)) (now («companions_b» .entry))) whose file present (now («new_bytes» .entry)) (now (out .entry)) ⌝ }
     ensures { λ r. ⌜ now (work .exit) ≡ workCalled r (now (a .entry)) (now (b .entry)) (now (shared .entry)) whose file present (now («new_bytes» .entry)) (length (now (out .entry))) (desksCalled r (now (a .entry)) (now (b .entry)) (now (shared .entry)) (length (now (work .entry))) (marksIn (now («kinds_a» .entry)) (now («places_a» .entry)) (now («companions_a» .entry))) (marksIn (now («kinds_b» .entry)) (now («places_b» .entry)) (now («companions_b» .entry))) whose file present (now («new_bytes» .entry)) (length (now (out .entry)))) (now (work .entry)) ⌝ }
 {
     let fault = call_fault(refusals, size, whose, present);

@@ -16,14 +16,14 @@ use Rattle.desks_calls.specs.declared.Whose.{Whose}
 use Rattle.desks_calls.specs.declared.Whose.the-variants.{DeskA, DeskB, Calendars}
 use Rattle.desks_calls.specs.Join.{DeskAnswer, judgedJoin}
 use Rattle.desks_calls.specs.Desks.{Sight, NoChange, OwnChange, CalendarChange, sightOf, seenByA, seenByB, deskFault, answeredBy, deskAnswer, isWritten, DesksAnswer, bothAnswered, desksAnswer}
-use Rattle.desks_calls.specs.Run.{Call, State, answerTo, bundleNow, marksNow, next, stepped, after}
+use Rattle.desks_calls.specs.Run.{Call, DesksState, answerTo, bundleNow, marksNow, desksNext, desksStepped, afterCalls}
 use Rattle.desks_calls.proofs.Demands.{refused, not-seen, own-right, calendar-right}
 
 -- marks that are those of a full judgement
 abbrev pub RightDesk : Gate → List ℕ → List ℕ → Marks → Type 0
 RightDesk g desk shared marks = marks ≡ judgedJoin g desk shared .marks
 
-pub record Right (g : Gate) (x : State) : Type 0 where
+pub record Right (g : Gate) (x : DesksState) : Type 0 where
   pub right-a : RightDesk g (x .a) (x .shared) (x .marksA)
   pub right-b : RightDesk g (x .b) (x .shared) (x .marksB)
 
@@ -59,10 +59,10 @@ module _ (g : Gate) where
           go false new false e = ap (λ x. x .marks) (refused g desk shared (CalendarChange k f room) marks (eqb-false _ 0 e)) ∙ right
 
   -- ---- one call
-  step-by : (whose : Whose) (k : ℕ) (f : File) (room : ℕ) (x : State) → Right g x
+  step-by : (whose : Whose) (k : ℕ) (f : File) (room : ℕ) (x : DesksState) → Right g x
       → (answer : DesksAnswer) → answer ≡ desksAnswer g (x .a) (x .b) (x .shared) (x .marksA) (x .marksB) whose k f room
-      → Right g (next g whose (isWritten whose (answer .a .refusal) (answer .b .refusal)) k f x answer)
-  unfolding next isWritten desksAnswer bothAnswered sightOf seenByA seenByB
+      → Right g (desksNext g whose (isWritten whose (answer .a .refusal) (answer .b .refusal)) k f x answer)
+  unfolding desksNext isWritten desksAnswer bothAnswered sightOf seenByA seenByB
   step-by DeskA k f room x r answer is =
       rw is
       (record {
@@ -82,17 +82,17 @@ module _ (g : Gate) where
         right-b = calendar-step (x .b) (x .shared) (x .marksB) (r .right-b) k f room _ (λ e. rw (eq-eqb _ 0 e) (or-true (eqb (deskAnswer g (x .a) (x .shared) (CalendarChange k f room) (x .marksA) .refusal) 0)));
       })
 
-  pub step-right : (x : State) (c : Call) → Right g x → Right g (stepped g x c)
-  unfolding stepped answerTo
+  pub step-right : (x : DesksState) (c : Call) → Right g x → Right g (desksStepped g x c)
+  unfolding desksStepped answerTo
   step-right x c r = step-by (c .whose) (c .file) (c .new) (c .room) x r _ refl
 
   -- ---- any number of calls
-  pub stays-right : (cs : List Call) (x : State) → Right g x → Right g (after g cs x)
-  unfolding after
+  pub stays-right : (cs : List Call) (x : DesksState) → Right g x → Right g (afterCalls g cs x)
+  unfolding afterCalls
   stays-right [] x r = r
-  stays-right (c ∷ cs) x r = stays-right cs (stepped g x c) (step-right x c r)
+  stays-right (c ∷ cs) x r = stays-right cs (desksStepped g x c) (step-right x c r)
 
   -- from desks that were judged in full on, refused or not
   pub always-right : (a b shared : List ℕ) (cs : List Call)
-      → Right g (after g cs (record { a = a; b = b; shared = shared; marksA = judgedJoin g a shared .marks; marksB = judgedJoin g b shared .marks }))
+      → Right g (afterCalls g cs (record { a = a; b = b; shared = shared; marksA = judgedJoin g a shared .marks; marksB = judgedJoin g b shared .marks }))
   always-right a b shared cs = stays-right cs _ (record { right-a = refl; right-b = refl })

@@ -20,7 +20,7 @@ use Rattle.desks_calls.specs.declared.Whose.{Whose}
 use Rattle.desks_calls.specs.declared.Whose.the-variants.{DeskA, DeskB, Calendars}
 use Rattle.desks_calls.specs.Join.{DeskAnswer}
 use Rattle.desks_calls.specs.Desks.{Sight, OwnChange, CalendarChange, sightOf, seenByA, seenByB, sightFault, deskFault, answeredBy, deskAnswer, bundleChanged, isWritten, DesksAnswer, bothAnswered, desksAnswer, outputBy, desksOutput}
-use Rattle.desks_calls.specs.Run.{Call, State, answerTo}
+use Rattle.desks_calls.specs.Run.{Call, DesksState, answerTo}
 use Rattle.desks_calls.proofs.Laws.{desk-none, change-none}
 
 -- what a desk sees of a call
@@ -32,21 +32,21 @@ sightB c = sightOf (seenByB (c .whose)) (c .file) (c .new) (c .room)
 
 module _ (g : Gate) where
   -- each desk is answered by its own things alone
-  pub desk-alone-a : (x : State) (c : Call) → answerTo g x c .a ≡ deskAnswer g (x .a) (x .shared) (sightA c) (x .marksA)
+  pub desk-alone-a : (x : DesksState) (c : Call) → answerTo g x c .a ≡ deskAnswer g (x .a) (x .shared) (sightA c) (x .marksA)
   unfolding answerTo desksAnswer bothAnswered sightA
   desk-alone-a x c = refl
 
-  pub desk-alone-b : (x : State) (c : Call) → answerTo g x c .b ≡ deskAnswer g (x .b) (x .shared) (sightB c) (x .marksB)
+  pub desk-alone-b : (x : DesksState) (c : Call) → answerTo g x c .b ≡ deskAnswer g (x .b) (x .shared) (sightB c) (x .marksB)
   unfolding answerTo desksAnswer bothAnswered sightB
   desk-alone-b x c = refl
 
   -- "Two runs that agree on one desk's bundle and handed board, the calendars, and any change to these with its output's length
   -- give that desk the same board and refusals."
-  pub two-runs-a : (x y : State) (c d : Call) → x .a ≡ y .a → x .marksA ≡ y .marksA → x .shared ≡ y .shared → sightA c ≡ sightA d → answerTo g x c .a ≡ answerTo g y d .a
+  pub two-runs-a : (x y : DesksState) (c d : Call) → x .a ≡ y .a → x .marksA ≡ y .marksA → x .shared ≡ y .shared → sightA c ≡ sightA d → answerTo g x c .a ≡ answerTo g y d .a
   two-runs-a x y c d bundle board calendars change =
       desk-alone-a x c ∙ rw (bundle, board, calendars, change) (sym (desk-alone-a y d))
 
-  pub two-runs-b : (x y : State) (c d : Call) → x .b ≡ y .b → x .marksB ≡ y .marksB → x .shared ≡ y .shared → sightB c ≡ sightB d → answerTo g x c .b ≡ answerTo g y d .b
+  pub two-runs-b : (x y : DesksState) (c d : Call) → x .b ≡ y .b → x .marksB ≡ y .marksB → x .shared ≡ y .shared → sightB c ≡ sightB d → answerTo g x c .b ≡ answerTo g y d .b
   two-runs-b x y c d bundle board calendars change =
       desk-alone-b x c ∙ rw (bundle, board, calendars, change) (sym (desk-alone-b y d))
 

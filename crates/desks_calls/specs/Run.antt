@@ -21,14 +21,14 @@ pub record Call : Type 0 where
   pub room : ℕ
 
 -- what is at hand between two calls
-pub record State : Type 0 where
+pub record DesksState : Type 0 where
   pub a : List ℕ
   pub b : List ℕ
   pub shared : List ℕ
   pub marksA : Marks
   pub marksB : Marks
 
-unfoldable pub answerTo : Gate → State → Call → DesksAnswer
+unfoldable pub answerTo : Gate → DesksState → Call → DesksAnswer
 answerTo g x c =
     desksAnswer g (x .a) (x .b) (x .shared) (x .marksA) (x .marksB) (c .whose) (c .file) (c .new) (c .room)
 
@@ -42,12 +42,12 @@ unfoldable pub marksNow : Gate → Bool → List ℕ → List ℕ → DeskAnswer
 marksNow g isNew desk shared answer =
     cond (isNew && not (eqb (answer .refusal) 0)) (judgedJoin g desk shared .marks) (answer .marks)
 
-unfoldable pub next : Gate → Whose → Bool → ℕ → File → State → DesksAnswer → State
-next g DeskA isNew k f x answer =
+unfoldable pub desksNext : Gate → Whose → Bool → ℕ → File → DesksState → DesksAnswer → DesksState
+desksNext g DeskA isNew k f x answer =
     record { a = bundleNow (g .files) isNew (x .a) k f; b = x .b; shared = x .shared; marksA = answer .a .marks; marksB = answer .b .marks }
-next g DeskB isNew k f x answer =
+desksNext g DeskB isNew k f x answer =
     record { a = x .a; b = bundleNow (g .files) isNew (x .b) k f; shared = x .shared; marksA = answer .a .marks; marksB = answer .b .marks }
-next g Calendars isNew k f x answer =
+desksNext g Calendars isNew k f x answer =
     record {
       a = x .a;
       b = x .b;
@@ -56,10 +56,10 @@ next g Calendars isNew k f x answer =
       marksB = marksNow g isNew (x .b) (bundleNow (g .files) isNew (x .shared) k f) (answer .b);
     }
 
-unfoldable pub stepped : Gate → State → Call → State
-stepped g x c =
-    next g (c .whose) (isWritten (c .whose) (answerTo g x c .a .refusal) (answerTo g x c .b .refusal)) (c .file) (c .new) x (answerTo g x c)
+unfoldable pub desksStepped : Gate → DesksState → Call → DesksState
+desksStepped g x c =
+    desksNext g (c .whose) (isWritten (c .whose) (answerTo g x c .a .refusal) (answerTo g x c .b .refusal)) (c .file) (c .new) x (answerTo g x c)
 
-unfoldable pub after : Gate → List Call → State → State
-after g [] x = x
-after g (c ∷ cs) x = after g cs (stepped g x c)
+unfoldable pub afterCalls : Gate → List Call → DesksState → DesksState
+afterCalls g [] x = x
+afterCalls g (c ∷ cs) x = afterCalls g cs (desksStepped g x c)

@@ -8,7 +8,7 @@ use mathlib.Core.List.{List}
 use native.Mathlib.Omega.{arith}
 use lib.ListN.{length, getD}
 use Rattle.parts.specs.Files.{bytesOf}
-use Rattle.bundle_bytes.specs.Pieces.{startOf}
+use Rattle.bundle_bytes.specs.Pieces.{pieceStart}
 use Rattle.bundle_layout.specs.Bundle.{headerSize, fileAt, piecesOf, bundleLength}
 use Rattle.drawer_layout.specs.Places.{total, allLengths}
 use Rattle.drawer_layout.proofs.Laws.{Laid, last-or-before, under-or-not}
@@ -67,8 +67,8 @@ module _ (n : ℕ) (offs lens : List ℕ) (room : ℕ) (ok : Laid n offs lens ro
 
 -- ---- the bundle of a drawer's files
 module _ (n : ℕ) (d : List ℕ) (fine : drawerFault n d ≡ 0) where
-  starts : (m : ℕ) → m ≤ n → startOf (piecesOf (fileAt d)) m ≡ total (λ j. getD (lengthsOf n d) j 0) m
-  unfolding startOf total piecesOf
+  starts : (m : ℕ) → m ≤ n → pieceStart (piecesOf (fileAt d)) m ≡ total (λ j. getD (lengthsOf n d) j 0) m
+  unfolding pieceStart total piecesOf
   starts zero l = refl
   starts (suc m) l = rw (starts m (omega arith), length-is n d fine m (omega arith), held-length n d fine m (omega arith))
 

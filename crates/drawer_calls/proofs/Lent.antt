@@ -13,19 +13,19 @@ use Rattle.gate_marks.specs.Gate.{Gate}
 use Rattle.gate_calls.specs.Calls.{changedMarks}
 use Rattle.gate_calls.specs.Lent.{lentFault}
 use Rattle.gate_calls.proofs.Lent.{lent-lists, lent-room}
-use Rattle.drawer_held.specs.Drawer.{changeFault, drawerMade}
+use Rattle.drawer_held.specs.Drawer.{drawerChangeFault, drawerMade}
 use Rattle.drawer_calls.specs.Calls.{DrawerAnswer, drawerAnswer, drawerJudged, drawerChanged}
 use Rattle.drawer_calls.specs.Lent.{drawerJudgedIn, drawerChangedIn, drawerMadeIn}
 
 -- ---- a change, by its refusal
 module _ (g : Gate) (d : List ℕ) (k : ℕ) (f : File) (handed : Marks) where
-  pub changed-well : changeFault (g .files) d k f ≡ 0 → drawerChanged g d k f handed ≡ drawerAnswer 0 (changedMarks g k (filesAfter d k f) handed)
+  pub changed-well : drawerChangeFault (g .files) d k f ≡ 0 → drawerChanged g d k f handed ≡ drawerAnswer 0 (changedMarks g k (filesAfter d k f) handed)
   unfolding drawerChanged
-  changed-well e = rw (eq-eqb (changeFault (g .files) d k f) 0 e)
+  changed-well e = rw (eq-eqb (drawerChangeFault (g .files) d k f) 0 e)
 
-  pub changed-not : (changeFault (g .files) d k f ≡ 0 → ⊥) → drawerChanged g d k f handed ≡ drawerAnswer (changeFault (g .files) d k f) handed
+  pub changed-not : (drawerChangeFault (g .files) d k f ≡ 0 → ⊥) → drawerChanged g d k f handed ≡ drawerAnswer (drawerChangeFault (g .files) d k f) handed
   unfolding drawerChanged
-  changed-not e = rw (ne-eqb (changeFault (g .files) d k f) 0 e)
+  changed-not e = rw (ne-eqb (drawerChangeFault (g .files) d k f) 0 e)
 
 -- ---- with room
 module _ (g : Gate) (d : List ℕ) (lent : ℕ) (handed : Marks) (room : lentFault g lent handed ≡ 0) where

@@ -10,7 +10,7 @@ use Rattle.bundle_layout.specs.Change.{filesAfter}
 use Rattle.gate_marks.specs.Gate.{Gate, marksOf}
 use Rattle.gate_marks.specs.Marks.{fullMarks}
 use Rattle.gate_calls.specs.Calls.{changedMarks}
-use Rattle.drawer_held.specs.Drawer.{drawerFault, changeFault}
+use Rattle.drawer_held.specs.Drawer.{drawerFault, drawerChangeFault}
 
 -- how a call ends: with a refusal or 0, and the marks
 pub record DrawerAnswer : Type 0 where
@@ -30,5 +30,5 @@ drawerJudged g d =
 -- and board untouched". The room is known before, so a try gives 11 too; the drawer after a change that is made is `drawerMade`
 unfoldable pub drawerChanged : Gate → List ℕ → ℕ → File → Marks → DrawerAnswer
 drawerChanged g d k f handed =
-    cond (eqb (changeFault (g .files) d k f) 0) (drawerAnswer 0 (changedMarks g k (filesAfter d k f) handed))
-    (drawerAnswer (changeFault (g .files) d k f) handed)
+    cond (eqb (drawerChangeFault (g .files) d k f) 0) (drawerAnswer 0 (changedMarks g k (filesAfter d k f) handed))
+    (drawerAnswer (drawerChangeFault (g .files) d k f) handed)

@@ -18,10 +18,10 @@ pub record DrawerState : Type 0 where
   pub marks : Marks
 
 -- what the call leaves of both, accepted or refused
-unfoldable pub stepped : Gate → DrawerState → DrawerStep → DrawerState
-stepped g x c =
+unfoldable pub drawerStepped : Gate → DrawerState → DrawerStep → DrawerState
+drawerStepped g x c =
     record { drawer = drawerMade (g .files) (x .drawer) (c .file) (c .new); marks = drawerChanged g (x .drawer) (c .file) (c .new) (x .marks) .marks }
 
-unfoldable pub after : Gate → List DrawerStep → DrawerState → DrawerState
-after g [] x = x
-after g (c ∷ cs) x = after g cs (stepped g x c)
+unfoldable pub afterDrawerSteps : Gate → List DrawerStep → DrawerState → DrawerState
+afterDrawerSteps g [] x = x
+afterDrawerSteps g (c ∷ cs) x = afterDrawerSteps g cs (drawerStepped g x c)

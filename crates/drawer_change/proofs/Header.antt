@@ -7,7 +7,7 @@ use native.Mathlib.Numerals.{add-one}
 use native.Mathlib.Omega.{arith}
 use lib.ListN.{length, getD, set, drop, length-append, length-set}
 use Rattle.bundle_bytes.specs.Words.{wordOf}
-use Rattle.bundle_bytes.specs.Pieces.{joined, written, startOf}
+use Rattle.bundle_bytes.specs.Pieces.{joined, written, pieceStart}
 use Rattle.bundle_bytes.proofs.Laws.{word-length, joined-length, joined-next, written-behind, written-back}
 use Rattle.bundle_layout.specs.Bundle.{headerSize}
 use Rattle.drawer_held.specs.Drawer.{entryAt, headerAt}
@@ -23,8 +23,8 @@ module _ (offs lens : List ℕ) where
   unfolding entryAt wordOf
   entry-long i = refl
 
-  pub entries-start : (i : ℕ) → startOf (entryAt offs lens) i ≡ 8 * i
-  unfolding startOf
+  pub entries-start : (i : ℕ) → pieceStart (entryAt offs lens) i ≡ 8 * i
+  unfolding pieceStart
   entries-start zero = refl
   entries-start (suc i) = omega (arith, entries-start i, entry-long i)
 

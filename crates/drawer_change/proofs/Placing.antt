@@ -21,11 +21,11 @@ use Rattle.drawer_moves.specs.Painted.{painted, partIn, filesMoved, movedIn}
 use Rattle.drawer_moves.proofs.Sums.{list-length}
 use Rattle.drawer_moves.proofs.Moves.{full-inside, place-full, empty-part, full-length}
 use Rattle.drawer_moves.proofs.Painting.{painted-put}
-use Rattle.drawer_held.specs.Drawer.{offsetsOf, lengthsOf, drawerFault, changeFault, lengthsFreed, lengthsAfter, placesAfter, headerAt, drawerAfter, drawerMade}
+use Rattle.drawer_held.specs.Drawer.{offsetsOf, lengthsOf, drawerFault, drawerChangeFault, lengthsFreed, lengthsAfter, placesAfter, headerAt, drawerAfter, drawerMade}
 use Rattle.drawer_held.proofs.Laws.{change-none, drawer-size, drawer-laid, held-bytes, freed-same, freed-other, new-piece, other-piece, length-changed}
 use Rattle.drawer_change.proofs.Lists.{same-or-not, gap-free, gap-clear, laid-anew, place-other, before-all, moved-laid, moved-length, painted-own}
 
-module _ (n : ℕ) (d : List ℕ) (k : ℕ) (f : File) (fine : changeFault n d k f ≡ 0) where
+module _ (n : ℕ) (d : List ℕ) (k : ℕ) (f : File) (fine : drawerChangeFault n d k f ≡ 0) where
   abbrev offs : List ℕ
   offs = offsetsOf n d
 

@@ -16,7 +16,7 @@ use Rattle.drawer_layout.specs.Places.{allLengths, movedDown, areMoved, newPlac
 use Rattle.drawer_moves.specs.Painted.{filesMoved, movedIn}
 use Rattle.drawer_places.specs.declared.Choice.{Choice}
 use Rattle.drawer_places.specs.Choice.{chosen}
-use Rattle.drawer_held.specs.Drawer.{offsetsOf, lengthsOf, changeFault, lengthsFreed, headerAt, drawerAfter, drawerMade}
+use Rattle.drawer_held.specs.Drawer.{offsetsOf, lengthsOf, drawerChangeFault, lengthsFreed, headerAt, drawerAfter, drawerMade}
 use Rattle.drawer_held.proofs.Laws.{drawer-size}
 use Rattle.drawer_change.proofs.Placing.{drawer-fine, number-fine, room-there, put, after-is, moved-is}
 
@@ -25,7 +25,7 @@ unfolding isPresent newFile
 there-is true new = refl
 there-is false new = refl
 
-module _ (d : List ℕ) (k : ℕ) (f : File) (fine : changeFault 20 d k f ≡ 0) {offs lens piece : List ℕ} {present : Bool} {choice : Choice}
+module _ (d : List ℕ) (k : ℕ) (f : File) (fine : drawerChangeFault 20 d k f ≡ 0) {offs lens piece : List ℕ} {present : Bool} {choice : Choice}
     (a : offs ≡ offsetsOf 20 d) (b : lens ≡ lengthsOf 20 d) (p : piece ≡ bytesOf f) (t : present ≡ isPresent f) (ch : choice ≡ chosen 20 offs (set lens k 0) (length d) present (length piece)) where
   place-is : choice .place ≡ newPlace 20 (offsetsOf 20 d) (lengthsFreed 20 d k) (length d) (isPresent f) (length (bytesOf f))
   unfolding chosen lengthsFreed
@@ -66,11 +66,11 @@ module _ (d : List ℕ) (k : ℕ) (f : File) (fine : changeFault 20 d k f ≡ 0)
   change-still e l = after-is 20 d k f fine (l ∙ rw (sym moved-by ∙ e, place-is, p, a, b))
 
 -- ---- a change made or refused
-module _ (d : List ℕ) (k : ℕ) (f : File) {x : ℕ} (is : x ≡ changeFault 20 d k f) where
+module _ (d : List ℕ) (k : ℕ) (f : File) {x : ℕ} (is : x ≡ drawerChangeFault 20 d k f) where
   pub made-so : {last : List ℕ} → x ≡ 0 → last ≡ drawerAfter 20 d k f → last ≡ drawerMade 20 d k f
   unfolding drawerMade
-  made-so z q = rw (eq-eqb (changeFault 20 d k f) 0 (sym is ∙ z)) q
+  made-so z q = rw (eq-eqb (drawerChangeFault 20 d k f) 0 (sym is ∙ z)) q
 
   pub made-not : (x ≡ 0 → ⊥) → d ≡ drawerMade 20 d k f
   unfolding drawerMade
-  made-not z = rw (ne-eqb (changeFault 20 d k f) 0 (λ q. z (is ∙ q)))
+  made-not z = rw (ne-eqb (drawerChangeFault 20 d k f) 0 (λ q. z (is ∙ q)))

@@ -8,7 +8,7 @@ ghost use Rattle.parts.specs.Files.{newFile};
 ghost use Rattle.bundle_bytes.specs.Words.{wordOf};
 ghost use Rattle.bundle_bytes.specs.Pieces.{written};
 ghost use Rattle.drawer_layout.specs.Places.{allLengths, movedDown};
-ghost use Rattle.drawer_held.specs.Drawer.{changeFault, headerAt, drawerAfter, drawerMade};
+ghost use Rattle.drawer_held.specs.Drawer.{drawerChangeFault, headerAt, drawerAfter, drawerMade};
 use bundle_bytes::put_part;
 use bundle_bytes::put_word;
 use drawer_held::change_fault;
@@ -68,7 +68,7 @@ fn put_file(d: &mut [u8], offs: &mut [u32], lens: &mut [u32], k: usize, place: u
 
 // Makes a change that is not refused.
 fn put_change(d: &mut [u8], k: usize, present: bool, new: &[u8])
-    requires { ⌜ changeFault 20 (now d) k (newFile present (now new)) ≡ 0 ⌝ }
+    requires { ⌜ drawerChangeFault 20 (now d) k (newFile present (now new)) ≡ 0 ⌝ }
     ensures { λ _. ⌜ now (d .exit) ≡ drawerAfter 20 (now (d .entry)) k (newFile present (now (new .entry))) ⌝ }
 {
     let mut offs = [0u32; 20];
@@ -91,7 +91,7 @@ fn put_change(d: &mut [u8], k: usize, present: bool, new: &[u8])
 
 // Makes a change in place: its refusal, 1, 2, 3, 4 or 11, which leaves the drawer as it is, or 0.
 pub fn change_drawer(d: &mut [u8], k: usize, present: bool, new: &[u8]) -> u32
-    ensures { λ r. ⌜ r ≡ changeFault 20 (now (d .entry)) k (newFile present (now (new .entry))) ⌝ }
+    ensures { λ r. ⌜ r ≡ drawerChangeFault 20 (now (d .entry)) k (newFile present (now (new .entry))) ⌝ }
     ensures { λ _. ⌜ now (d .exit) ≡ drawerMade 20 (now (d .entry)) k (newFile present (now (new .entry))) ⌝ }
 {
     let refusal = change_fault(d, k, present, new);

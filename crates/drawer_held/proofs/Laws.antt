@@ -16,7 +16,7 @@ use Rattle.json_bytes.proofs.Laws.{by-test}
 use Rattle.parts.specs.Files.{File, Left, Given, isPresent, bytesOf, newFile}
 use Rattle.parts.proofs.Laws.{part-is}
 use Rattle.bundle_bytes.specs.Words.{wordAt}
-use Rattle.bundle_bytes.specs.Pieces.{startOf, changed}
+use Rattle.bundle_bytes.specs.Pieces.{pieceStart, changed}
 use Rattle.bundle_bytes.proofs.Laws.{changed-same, changed-other}
 use Rattle.bundle_layout.specs.Bundle.{headerSize, offsetAt, lengthAt, isOmitted, partAt, fileAt, piecesOf, bundleLength}
 use Rattle.bundle_layout.specs.Change.{filesAfter}
@@ -27,7 +27,7 @@ use Rattle.drawer_layout.specs.Places.{total, listOf, allLengths, standApart}
 use Rattle.drawer_layout.proofs.Laws.{Laid, laid, last-or-before, under-or-not}
 use Rattle.drawer_moves.specs.Painted.{partIn}
 use Rattle.drawer_moves.proofs.Sums.{total-step, list-at, list-length}
-use Rattle.drawer_held.specs.Drawer.{numberAt, offsetsOf, lengthsOf, drawerFault, heldFault, partHeld, stateHeld, changeFault, lengthsFreed, lengthsAfter}
+use Rattle.drawer_held.specs.Drawer.{headerNumber, offsetsOf, lengthsOf, drawerFault, heldFault, partHeld, stateHeld, drawerChangeFault, lengthsFreed, lengthsAfter}
 
 -- ---- numbers read into a list, one more with each turn
 abbrev pub Filled : (ℕ → ℕ) → ℕ → List ℕ → List ℕ → Type 0
@@ -55,17 +55,17 @@ first-small true e = omega arith
 first-small false e = omega arith
 
 -- the number that a turn reads
-pub number-read : (d : List ℕ) (lengths : Bool) (i : ℕ) {at x : ℕ} → at ≡ cond lengths 8 4 → x ≡ wordAt d (at + 8 * i) → x ≡ numberAt d lengths i
-unfolding numberAt offsetAt lengthAt
+pub number-read : (d : List ℕ) (lengths : Bool) (i : ℕ) {at x : ℕ} → at ≡ cond lengths 8 4 → x ≡ wordAt d (at + 8 * i) → x ≡ headerNumber d lengths i
+unfolding headerNumber offsetAt lengthAt
 number-read d true i e q = q ∙ rw e
 number-read d false i e q = q ∙ rw e
 
-pub offsets-read : (n : ℕ) (d : List ℕ) {out : List ℕ} → out ≡ listOf (numberAt d false) n → out ≡ offsetsOf n d
-unfolding numberAt offsetsOf
+pub offsets-read : (n : ℕ) (d : List ℕ) {out : List ℕ} → out ≡ listOf (headerNumber d false) n → out ≡ offsetsOf n d
+unfolding headerNumber offsetsOf
 offsets-read n d q = q
 
-pub lengths-read : (n : ℕ) (d : List ℕ) {out : List ℕ} → out ≡ listOf (numberAt d true) n → out ≡ lengthsOf n d
-unfolding numberAt lengthsOf
+pub lengths-read : (n : ℕ) (d : List ℕ) {out : List ℕ} → out ≡ listOf (headerNumber d true) n → out ≡ lengthsOf n d
+unfolding headerNumber lengthsOf
 lengths-read n d q = q
 
 -- ---- the refusals, as the code finds them
@@ -118,16 +118,16 @@ module _ (n : ℕ) (d : List ℕ) (k : ℕ) {x : ℕ} (e : x ≡ heldFault n d k
   state-there z q = rw (eq-eqb (heldFault n d k) 0 (sym e ∙ z), q)
 
   module _ (f : File) where
-    pub change-refused : (x ≡ 0 → ⊥) → x ≡ changeFault n d k f
-    unfolding changeFault
+    pub change-refused : (x ≡ 0 → ⊥) → x ≡ drawerChangeFault n d k f
+    unfolding drawerChangeFault
     change-refused z = rw (ne-eqb (heldFault n d k) 0 (λ q. z (e ∙ q))) e
 
-    pub change-full : {y : ℕ} → x ≡ 0 → y ≡ bundleLength n (filesAfter d k f) → length d < y → 11 ≡ changeFault n d k f
-    unfolding changeFault
+    pub change-full : {y : ℕ} → x ≡ 0 → y ≡ bundleLength n (filesAfter d k f) → length d < y → 11 ≡ drawerChangeFault n d k f
+    unfolding drawerChangeFault
     change-full z q l = rw (eq-eqb (heldFault n d k) 0 (sym e ∙ z), lt-ltb (length d) (bundleLength n (filesAfter d k f)) (rw q at l))
 
-    pub change-fine : {y : ℕ} → x ≡ 0 → y ≡ bundleLength n (filesAfter d k f) → y ≤ length d → 0 ≡ changeFault n d k f
-    unfolding changeFault
+    pub change-fine : {y : ℕ} → x ≡ 0 → y ≡ bundleLength n (filesAfter d k f) → y ≤ length d → 0 ≡ drawerChangeFault n d k f
+    unfolding drawerChangeFault
     change-fine z q l = rw (eq-eqb (heldFault n d k) 0 (sym e ∙ z), le-ltb (length d) (bundleLength n (filesAfter d k f)) (rw q at l))
 
 -- ---- what no refusal says
@@ -148,8 +148,8 @@ passed x a e = go (eqb x 0) refl e
     go true p e = (eqb-true x 0 p, e)
     go false p e = absurd (eqb-false x 0 p e)
 
-start-total : (g : ℕ → List ℕ) (n : ℕ) → startOf g n ≡ total (λ j. length (g j)) n
-unfolding startOf total
+start-total : (g : ℕ → List ℕ) (n : ℕ) → pieceStart g n ≡ total (λ j. length (g j)) n
+unfolding pieceStart total
 start-total g zero = refl
 start-total g (suc n) = ap (λ r. r + length (g n)) (start-total g n)
 
@@ -165,8 +165,8 @@ held-none n d k e =
     let p = passed (drawerFault n d) (cond (ltb k n) 0 4) e in
     (p .0, is-under k n 3 (p .1))
 
-pub change-none : (n : ℕ) (d : List ℕ) (k : ℕ) (f : File) → changeFault n d k f ≡ 0 → (drawerFault n d ≡ 0) × (k < n) × (bundleLength n (filesAfter d k f) ≤ length d)
-unfolding changeFault
+pub change-none : (n : ℕ) (d : List ℕ) (k : ℕ) (f : File) → drawerChangeFault n d k f ≡ 0 → (drawerFault n d ≡ 0) × (k < n) × (bundleLength n (filesAfter d k f) ≤ length d)
+unfolding drawerChangeFault
 change-none n d k f e =
     let p = passed (heldFault n d k) (cond (ltb (length d) (bundleLength n (filesAfter d k f))) 11 0) e in
     (held-none n d k (p .0) .0, held-none n d k (p .0) .1, not-under (length d) (bundleLength n (filesAfter d k f)) 10 (p .1))

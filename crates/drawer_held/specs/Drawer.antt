@@ -16,8 +16,8 @@ use Rattle.drawer_layout.specs.Places.{standApart, listOf, placed}
 use Rattle.drawer_moves.specs.Painted.{painted}
 
 -- the numbers of the header, by file
-unfoldable pub numberAt : List ℕ → Bool → ℕ → ℕ
-numberAt d lengths i = cond lengths (lengthAt d i) (offsetAt d i)
+unfoldable pub headerNumber : List ℕ → Bool → ℕ → ℕ
+headerNumber d lengths i = cond lengths (lengthAt d i) (offsetAt d i)
 
 unfoldable pub offsetsOf : ℕ → List ℕ → List ℕ
 offsetsOf n d = listOf (offsetAt d) n
@@ -45,8 +45,8 @@ stateHeld n d k = cond (eqb (heldFault n d k) 0) (cond (isOmitted d k) Omitted P
 
 -- a change of file k to f: "refused for room exactly if the present lengths after it and 164 exceed the drawer", "11, no room,
 -- takes the place of 5 and 6"
-unfoldable pub changeFault : ℕ → List ℕ → ℕ → File → ℕ
-changeFault n d k f =
+unfoldable pub drawerChangeFault : ℕ → List ℕ → ℕ → File → ℕ
+drawerChangeFault n d k f =
     cond (eqb (heldFault n d k) 0) (cond (ltb (length d) (bundleLength n (filesAfter d k f))) 11 0) (heldFault n d k)
 
 -- ---- The drawer after a change
@@ -74,4 +74,4 @@ drawerAfter n d k f =
 
 -- "with drawer and board untouched"
 unfoldable pub drawerMade : ℕ → List ℕ → ℕ → File → List ℕ
-drawerMade n d k f = cond (eqb (changeFault n d k f) 0) (drawerAfter n d k f) d
+drawerMade n d k f = cond (eqb (drawerChangeFault n d k f) 0) (drawerAfter n d k f) d

@@ -7,7 +7,7 @@ ghost use Rattle.parts.specs.Files.{bytesOf, newFile};
 ghost use Rattle.bundle_layout.specs.Bundle.{bundleLength};
 ghost use Rattle.bundle_layout.specs.Change.{filesAfter};
 ghost use Rattle.drawer_layout.specs.Places.{listOf};
-ghost use Rattle.drawer_held.specs.Drawer.{numberAt, drawerFault, heldFault, partHeld, stateHeld, changeFault};
+ghost use Rattle.drawer_held.specs.Drawer.{headerNumber, drawerFault, heldFault, partHeld, stateHeld, drawerChangeFault};
 use bundle::FileState;
 use bundle::is_omitted;
 use bundle::part_at;
@@ -17,7 +17,7 @@ use drawer_places::all_lengths;
 
 // Reads as many of a header's offsets, or of its lengths, as the list has room for.
 pub fn read_numbers(d: &[u8], lengths: bool, out: &mut [u32])
-    ensures { λ _. ⌜ now (out .exit) ≡ listOf (numberAt (now (d .entry)) lengths) (length (now (out .entry))) ⌝ }
+    ensures { λ _. ⌜ now (out .exit) ≡ listOf (headerNumber (now (d .entry)) lengths) (length (now (out .entry))) ⌝ }
 {
     let at = first_at(lengths);
     let mut i = 0;
@@ -121,7 +121,7 @@ fn length_after<'a>(d: &'a [u8], k: usize, present: bool, new: &'a [u8]) -> usiz
 
 // The refusal of a change, 1, 2, 3, 4 or 11, or 0.
 pub fn change_fault<'a>(d: &'a [u8], k: usize, present: bool, new: &'a [u8]) -> u32
-    ensures { λ r. ⌜ r ≡ changeFault 20 (now (d .entry)) k (newFile present (now (new .entry))) ⌝ }
+    ensures { λ r. ⌜ r ≡ drawerChangeFault 20 (now (d .entry)) k (newFile present (now (new .entry))) ⌝ }
 {
     let refusal = held_fault(d, k);
     if refusal != 0 {

@@ -22,7 +22,7 @@ use Rattle.gate_calls.specs.Calls.{changedMarks}
 use Rattle.gate_calls.specs.Lent.{lentFault, judgeLeft, changeLeft}
 use Rattle.gate_calls.proofs.Lent.{lent-lists}
 use Rattle.gate_lists.proofs.Answers.{judged-marks, judged-work, all-new, change-new, work-untouched, work-judged, lists-even}
-use Rattle.drawer_held.specs.Drawer.{drawerFault, changeFault, drawerMade}
+use Rattle.drawer_held.specs.Drawer.{drawerFault, drawerChangeFault, drawerMade}
 use Rattle.drawer_held.proofs.Laws.{change-none}
 use Rattle.drawer_calls.specs.Calls.{DrawerAnswer, drawerAnswer, drawerJudged, drawerChanged}
 use Rattle.drawer_calls.specs.Lent.{drawerJudgedIn, drawerChangedIn, drawerMadeIn}
@@ -129,11 +129,11 @@ module _ (g : Gate) (files-are : g .files ≡ 20) (d : List ℕ) (k : ℕ) (f : 
     unfolding changeLeft
     not-lent n = by-change fault handed work (lent-refused g d (length work) handed (λ z. n (is ∙ z)) k f ∙ ap (λ x. drawerAnswer x handed) (sym is)) (work-untouched g (Change k) (filesAfter d k f) work fault n)
 
-    module _ (lent : fault ≡ 0) {refusal : ℕ} (by : refusal ≡ changeFault 20 d k f) where
+    module _ (lent : fault ≡ 0) {refusal : ℕ} (by : refusal ≡ drawerChangeFault 20 d k f) where
       whole : drawerChangedIn g d k f (length work) handed ≡ drawerChanged g d k f handed
       whole = lent-change g d (length work) handed (sym is ∙ lent) k f
 
-      by-files : refusal ≡ changeFault (g .files) d k f
+      by-files : refusal ≡ drawerChangeFault (g .files) d k f
       by-files = rw files-are by
 
       pub change-refused : (refusal ≡ 0 → ⊥) → Changed refusal handed work
@@ -161,4 +161,4 @@ module _ (g : Gate) (files-are : g .files ≡ 20) (d : List ℕ) (k : ℕ) (f : 
     unfolding drawerMadeIn drawerMade
     made-not n =
         by-test (λ r. d ≡ r) (eqb (lentFault g (length work) handed) 0) (drawerMade (g .files) d k f) d
-        (λ q. rw (ne-eqb (changeFault (g .files) d k f) 0 (λ z. n (by ∙ ap (λ x. x .refusal) (lent-change g d (length work) handed (eqb-true (lentFault g (length work) handed) 0 q) k f ∙ changed-well g d k f handed z))))) (λ q. refl)
+        (λ q. rw (ne-eqb (drawerChangeFault (g .files) d k f) 0 (λ z. n (by ∙ ap (λ x. x .refusal) (lent-change g d (length work) handed (eqb-true (lentFault g (length work) handed) 0 q) k f ∙ changed-well g d k f handed z))))) (λ q. refl)

@@ -27,7 +27,7 @@ use Rattle.drawer_moves.specs.Painted.{painted}
 use Rattle.drawer_moves.proofs.Painting.{painted-length, painted-part, painted-byte}
 use Rattle.drawer_moves.proofs.Sums.{list-at}
 use Rattle.drawer_moves.proofs.Moves.{place-full}
-use Rattle.drawer_held.specs.Drawer.{offsetsOf, lengthsOf, drawerFault, changeFault, lengthsFreed, lengthsAfter, placesAfter, entryAt, headerAt, drawerAfter}
+use Rattle.drawer_held.specs.Drawer.{offsetsOf, lengthsOf, drawerFault, drawerChangeFault, lengthsFreed, lengthsAfter, placesAfter, entryAt, headerAt, drawerAfter}
 use Rattle.drawer_held.proofs.Laws.{drawer-size, offset-is, length-is, file-stands, held-length, freed-other, new-piece, other-piece}
 use Rattle.drawer_change.proofs.Lists.{same-or-not, moved-zero, moved-none}
 use Rattle.drawer_change.proofs.Header.{entry-long, entries-start, header-long}
@@ -76,7 +76,7 @@ module _ (s : List ℕ) (i : ℕ) where
       go false q = refl
       go true q = absurd (let z : Left ≡ Given b = sym (omitted-file s i q) ∙ e in let y : _≡_ {A = ℕ} 0 1 = cc in omega arith)
 
-module _ (n : ℕ) (d : List ℕ) (k : ℕ) (f : File) (fine : changeFault n d k f ≡ 0) where
+module _ (n : ℕ) (d : List ℕ) (k : ℕ) (f : File) (fine : drawerChangeFault n d k f ≡ 0) where
   abbrev after : List ℕ
   after = drawerAfter n d k f
 

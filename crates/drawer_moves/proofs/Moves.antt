@@ -19,7 +19,7 @@ use Rattle.bundle_layout.specs.Bundle.{headerSize}
 use Rattle.drawer_layout.specs.Places.{total, comesBefore, lengthBefore, allLengths, movedTo, movedDown, standApart}
 use Rattle.drawer_layout.proofs.Laws.{Laid, laid, under-or-not, last-or-before}
 use Rattle.drawer_moves.specs.Painted.{painted, partIn, filesMoved, movedIn}
-use Rattle.drawer_moves.specs.Next.{isNext, Next, below, underAt, movedUnder, Moving}
+use Rattle.drawer_moves.specs.Next.{isNext, Next, lengthBelow, underAt, movedUnder, Moving}
 use Rattle.drawer_moves.proofs.Sums.{total-same, total-le, total-more, total-step, total-none, list-at}
 use Rattle.drawer_moves.proofs.Painting.{painted-length, painted-none, painted-back, painted-same, painted-put}
 
@@ -130,8 +130,8 @@ before-self offs i = rw (le-ltb (getD offs i 0) (getD offs i 0) (omega arith), e
 
 module _ (n : ℕ) (offs lens : List ℕ) where
   -- a file that starts below c is moved to end with the others that do
-  pub ends-below : (c j : ℕ) → j < n → getD offs j 0 < c → lengthBefore n offs lens j + getD lens j 0 ≤ below n offs lens c
-  unfolding lengthBefore below
+  pub ends-below : (c j : ℕ) → j < n → getD offs j 0 < c → lengthBefore n offs lens j + getD lens j 0 ≤ lengthBelow n offs lens c
+  unfolding lengthBefore lengthBelow
   ends-below c j l h =
       total-more (λ x. cond (comesBefore offs x j) (getD lens x 0) 0) (λ x. cond (ltb (getD offs x 0) c) (getD lens x 0) 0) n j (getD lens j 0) l
       (λ x m. by-test (λ r. r ≤ cond (ltb (getD offs x 0) c) (getD lens x 0) 0) (comesBefore offs x j) (getD lens x 0) 0 (λ e. rw (lt-ltb (getD offs x 0) c (omega (arith, before-le offs x j e))) (omega arith)) (λ e. omega arith))
@@ -148,8 +148,8 @@ module _ (n : ℕ) (offs lens : List ℕ) where
         list-at (movedTo n offs lens) n i l ∙ rw (ne-eqb (getD offs i 0) 0 (λ z. omega (arith, full-inside i l h .0)), ne-eqb (getD lens i 0) 0 (λ z. omega arith))
 
     -- before the first move nothing is moved
-    pub below-start : below n offs lens (headerSize n) ≡ 0
-    unfolding below
+    pub below-start : lengthBelow n offs lens (headerSize n) ≡ 0
+    unfolding lengthBelow
     below-start =
         total-none (λ x. cond (ltb (getD offs x 0) (headerSize n)) (getD lens x 0) 0) n
         (λ j l. ⊎-elim (λ h. rw (le-ltb (getD offs j 0) (headerSize n) (full-inside j l h .0))) (λ h. let z : getD lens j 0 ≡ 0 = omega arith in rw z (nothing-either (ltb (getD offs j 0) (headerSize n)) true)) (under-or-not 0 (getD lens j 0)))
@@ -171,15 +171,15 @@ module _ (n : ℕ) (offs lens : List ℕ) where
       here : (ltb (getD offs i 0) (getD offs i 0 + getD lens i 0) ≡ true) × (ltb (getD offs i 0) c ≡ false)
       here = (lt-ltb (getD offs i 0) (getD offs i 0 + getD lens i 0) (omega (arith, next .full l .0)), le-ltb (getD offs i 0) c (next .full l .1))
 
-      pub below-next : below n offs lens (getD offs i 0 + getD lens i 0) ≡ below n offs lens c + getD lens i 0
-      unfolding below
+      pub below-next : lengthBelow n offs lens (getD offs i 0 + getD lens i 0) ≡ lengthBelow n offs lens c + getD lens i 0
+      unfolding lengthBelow
       below-next =
           total-step (λ j. cond (ltb (getD offs j 0) c) (getD lens j 0) 0) (λ j. cond (ltb (getD offs j 0) (getD offs i 0 + getD lens i 0)) (getD lens j 0) 0) n i (getD lens i 0) l
           (rw (here .0, here .1) (sym (zero-add (getD lens i 0))))
           (λ j m d. ⊎-elim (λ z. rw z (nothing-either (ltb (getD offs j 0) (getD offs i 0 + getD lens i 0)) (ltb (getD offs j 0) c))) (λ z. rw z) (same-test j m d))
 
-      before-below : lengthBefore n offs lens i ≡ below n offs lens c
-      unfolding lengthBefore below
+      before-below : lengthBefore n offs lens i ≡ lengthBelow n offs lens c
+      unfolding lengthBefore lengthBelow
       before-below =
           total-same (λ j. cond (comesBefore offs j i) (getD lens j 0) 0) (λ j. cond (ltb (getD offs j 0) c) (getD lens j 0) 0) n
           (λ j m. ⊎-elim (λ h. ap (λ t. cond t (getD lens j 0) 0) (⊎-elim (λ k. before-lt offs j i (omega (arith, next .full l .1)) ∙ sym (lt-ltb (getD offs j 0) c k)) (λ k. not-before j m h k (eqb j i) refl ∙ sym (le-ltb (getD offs j 0) c k)) (under-or-not (getD offs j 0) c)))
@@ -189,7 +189,7 @@ module _ (n : ℕ) (offs lens : List ℕ) where
           not-before j m h k true e = rw (eqb-true j i e) (before-self offs i)
           not-before j m h k false e = before-not offs j i (omega (arith, others-behind j m (eqb-false j i e) h k, next .full l .0))
 
-      pub place-next : getD (movedDown n offs lens) i 0 ≡ headerSize n + below n offs lens c
+      pub place-next : getD (movedDown n offs lens) i 0 ≡ headerSize n + lengthBelow n offs lens c
       place-next = place-full i l (next .full l .0) ∙ ap (λ r. headerSize n + r) before-below
 
 -- ---- the drawer meanwhile
@@ -203,7 +203,7 @@ module _ (n : ℕ) (d offs lens : List ℕ) (ok : Laid n offs lens (length d)) w
   full-length i l h = length-take-le (getD lens i 0) (drop (getD offs i 0) d) (omega (arith, length-drop (getD offs i 0) d, full-inside n offs lens (length d) ok i l h .1))
 
   -- what is moved ends where the moved files end
-  ends-within : (c j : ℕ) → j < n → (underAt d offs lens c j ≡ []) ⊎ (getD (movedDown n offs lens) j 0 + length (underAt d offs lens c j) ≤ headerSize n + below n offs lens c)
+  ends-within : (c j : ℕ) → j < n → (underAt d offs lens c j ≡ []) ⊎ (getD (movedDown n offs lens) j 0 + length (underAt d offs lens c j) ≤ headerSize n + lengthBelow n offs lens c)
   unfolding underAt
   ends-within c j l =
       ⊎-elim (λ k. ⊎-elim (λ h. inr (rw (lt-ltb (getD offs j 0) c k, full-length j l h, place-full n offs lens (length d) ok j l h) (omega (arith, ends-below n offs lens c j l k)))) (λ h. inl (rw (lt-ltb (getD offs j 0) c k) (empty-part j (omega arith)))) (under-or-not 0 (getD lens j 0)))

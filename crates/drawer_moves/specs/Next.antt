@@ -20,8 +20,8 @@ pub record Next (n : ℕ) (offs lens : List ℕ) (c m r : ℕ) : Type 0 where
   pub least : (j : ℕ) → j < m → 0 < getD lens j 0 → c ≤ getD offs j 0 → (r < n) × (getD offs r 0 ≤ getD offs j 0)
 
 -- the lengths of the files that start below c
-unfoldable pub below : ℕ → List ℕ → List ℕ → ℕ → ℕ
-below n offs lens c = total (λ j. cond (ltb (getD offs j 0) c) (getD lens j 0) 0) n
+unfoldable pub lengthBelow : ℕ → List ℕ → List ℕ → ℕ → ℕ
+lengthBelow n offs lens c = total (λ j. cond (ltb (getD offs j 0) c) (getD lens j 0) 0) n
 
 -- a drawer whose files that start below c are moved
 unfoldable pub underAt : List ℕ → List ℕ → List ℕ → ℕ → ℕ → List ℕ
@@ -32,7 +32,7 @@ movedUnder n d offs lens c = painted (underAt d offs lens c) (movedDown n offs l
 
 pub record Moving (n : ℕ) (d offs lens : List ℕ) (c end i : ℕ) (now : List ℕ) : Type 0 where
   pub next : Next n offs lens c n i
-  pub ends : end ≡ headerSize n + below n offs lens c
+  pub ends : end ≡ headerSize n + lengthBelow n offs lens c
   pub behind : end ≤ c
   pub same : length now ≡ length d
   pub is : now ≡ movedUnder n d offs lens c

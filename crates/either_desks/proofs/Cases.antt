@@ -6,8 +6,8 @@ use mathlib.Core.List.{List, [], _∷_}
 use Rattle.parts.specs.Part.{partOf}
 use Rattle.parts.specs.Files.{Given, isPresent, bytesOf}
 use Rattle.bundle_bytes.specs.Words.{wordAt, wordOf}
-use Rattle.bundle_bytes.specs.Pieces.{joined, startOf, changed}
-use Rattle.bundle_layout.specs.Bundle.{headerSize, offsetAt, lengthAt, isOmitted, endOf, standsRight, laidOutFrom, laidOut, bundleFault, partAt, fileAt, lookupFault, piecesOf, entryOf, headerOf, bundleOf, bundleLength}
+use Rattle.bundle_bytes.specs.Pieces.{joined, pieceStart, changed}
+use Rattle.bundle_layout.specs.Bundle.{headerSize, offsetAt, lengthAt, isOmitted, endOf, standsRight, laidOutFrom, laidOut, bundleFault, partAt, fileAt, lookupFault, piecesOf, headerPair, headerOf, bundleOf, bundleLength}
 use Rattle.bundle_layout.specs.Change.{filesAfter, tryFault, makeFault}
 use Rattle.bundle_layout.specs.Put.{emptyBundle}
 use Rattle.desks_calls.specs.Join.{isShared, mayHold, holdsOnly, orElse, joinFault, changeFault}
@@ -19,5 +19,5 @@ abbrev desk : List ℕ
 desk = bundleOf 20 (filesAfter (emptyBundle 20) 2 (Given (120 ∷ [])))
 
 pub one-order-alone : deskFault 20 desk (emptyBundle 20) (OwnChange 2 (Given []) 164) ∷ deskFault 20 (bundleOf 20 (filesAfter desk 2 (Given []))) (emptyBundle 20) (OwnChange 4 (Given (121 ∷ [])) 165) ∷ deskFault 20 desk (emptyBundle 20) (OwnChange 4 (Given (121 ∷ [])) 165) ∷ [] ≡ 0 ∷ 0 ∷ 5 ∷ []
-unfolding partOf isPresent bytesOf wordAt wordOf joined startOf changed headerSize offsetAt lengthAt isOmitted endOf standsRight laidOutFrom laidOut bundleFault partAt fileAt lookupFault piecesOf entryOf headerOf bundleOf bundleLength filesAfter tryFault makeFault emptyBundle isShared mayHold holdsOnly orElse joinFault changeFault sightFault deskFault
+unfolding partOf isPresent bytesOf wordAt wordOf joined pieceStart changed headerSize offsetAt lengthAt isOmitted endOf standsRight laidOutFrom laidOut bundleFault partAt fileAt lookupFault piecesOf headerPair headerOf bundleOf bundleLength filesAfter tryFault makeFault emptyBundle isShared mayHold holdsOnly orElse joinFault changeFault sightFault deskFault
 one-order-alone = refl

@@ -15,7 +15,7 @@ use Rattle.desks_calls.specs.declared.Seen.{Seen}
 use Rattle.desks_calls.specs.declared.Seen.the-variants.{Nothing, Own, Shared}
 use Rattle.desks_calls.specs.Join.{isShared}
 use Rattle.desks_calls.specs.Desks.{CalendarChange, sightOf, seenByA, seenByB, deskFault, answeredBy, deskAnswer, isWritten, DesksAnswer, bothAnswered, desksAnswer}
-use Rattle.desks_calls.specs.Run.{Call, State, answerTo, bundleNow, marksNow, next, stepped}
+use Rattle.desks_calls.specs.Run.{Call, DesksState, answerTo, bundleNow, marksNow, desksNext, desksStepped}
 use Rattle.desks_calls.proofs.Laws.{shared-or-not}
 use Rattle.either_desks.specs.Either.{Apart, Accepted, handedOn, BothOrders, isOwn, isCommon, sees}
 use Rattle.either_desks.proofs.Desk.{Taken, taken-not, taken-own, taken-common, own-either, shared-either, desk-either}
@@ -61,7 +61,7 @@ both-common DeskB = refl
 both-common Calendars = refl
 
 -- ---- what an accepted change comes to
-abbrev pub stateOf : List ℕ → List ℕ → List ℕ → Marks → Marks → State
+abbrev pub stateOf : List ℕ → List ℕ → List ℕ → Marks → Marks → DesksState
 stateOf a b shared marksA marksB = record { a = a; b = b; shared = shared; marksA = marksA; marksB = marksB }
 
 -- the three bundles after it
@@ -74,7 +74,7 @@ nowB g c s = bundleNow (g .files) (isOwn (seenByB (c .whose))) s (c .file) (c .n
 abbrev pub nowShared : Gate → Call → List ℕ → List ℕ
 nowShared g c s = bundleNow (g .files) (isCommon (seenByA (c .whose))) s (c .file) (c .new)
 
-module _ (g : Gate) (x : State) (c : Call) (accepted : Accepted g x c) where
+module _ (g : Gate) (x : DesksState) (c : Call) (accepted : Accepted g x c) where
   -- a calendar change is accepted by some desk
   common : (desk : List ℕ) → isWritten Calendars (deskFault (g .files) (x .a) (x .shared) (CalendarChange (c .file) (c .new) (c .room))) (deskFault (g .files) (x .b) (x .shared) (CalendarChange (c .file) (c .new) (c .room))) ≡ true → Taken (g .files) desk (x .shared) Shared (c .file) (c .new) (c .room)
   unfolding isWritten
@@ -107,34 +107,34 @@ module _ (g : Gate) (x : State) (c : Call) (accepted : Accepted g x c) where
 
   -- the bundles that are at hand then
   pub now-is : handedOn g x c ≡ stateOf (nowA g c (x .a)) (nowB g c (x .b)) (nowShared g c (x .shared)) (answerTo g x c .a .marks) (answerTo g x c .b .marks)
-  unfolding Accepted handedOn stepped next bundleNow seenByA seenByB isOwn isCommon
+  unfolding Accepted handedOn desksStepped desksNext bundleNow seenByA seenByB isOwn isCommon
   now-is = rw accepted (go (c .whose))
     where
-      go : (w : Whose) → stateOf (next g w true (c .file) (c .new) x (answerTo g x c) .a) (next g w true (c .file) (c .new) x (answerTo g x c) .b) (next g w true (c .file) (c .new) x (answerTo g x c) .shared) (answerTo g x c .a .marks) (answerTo g x c .b .marks)
+      go : (w : Whose) → stateOf (desksNext g w true (c .file) (c .new) x (answerTo g x c) .a) (desksNext g w true (c .file) (c .new) x (answerTo g x c) .b) (desksNext g w true (c .file) (c .new) x (answerTo g x c) .shared) (answerTo g x c .a .marks) (answerTo g x c .b .marks)
           ≡ stateOf (bundleNow (g .files) (isOwn (seenByA w)) (x .a) (c .file) (c .new)) (bundleNow (g .files) (isOwn (seenByB w)) (x .b) (c .file) (c .new)) (bundleNow (g .files) (isCommon (seenByA w)) (x .shared) (c .file) (c .new)) (answerTo g x c .a .marks) (answerTo g x c .b .marks)
       go DeskA = refl
       go DeskB = refl
       go Calendars = refl
 
 -- a run's step is the same, but that a desk refused beside written calendars starts again there from a full judgement
-pub run-step : (g : Gate) (x : State) (c : Call) → answerTo g x c .a .refusal ≡ 0 → answerTo g x c .b .refusal ≡ 0 → stepped g x c ≡ handedOn g x c
-unfolding handedOn stepped next marksNow isWritten
+pub run-step : (g : Gate) (x : DesksState) (c : Call) → answerTo g x c .a .refusal ≡ 0 → answerTo g x c .b .refusal ≡ 0 → desksStepped g x c ≡ handedOn g x c
+unfolding handedOn desksStepped desksNext marksNow isWritten
 run-step g x c a b = go (c .whose) (answerTo g x c) a b
   where
-    go : (w : Whose) (r : DesksAnswer) → r .a .refusal ≡ 0 → r .b .refusal ≡ 0 → next g w (isWritten w (r .a .refusal) (r .b .refusal)) (c .file) (c .new) x r ≡ stateOf (next g w (isWritten w (r .a .refusal) (r .b .refusal)) (c .file) (c .new) x r .a) (next g w (isWritten w (r .a .refusal) (r .b .refusal)) (c .file) (c .new) x r .b) (next g w (isWritten w (r .a .refusal) (r .b .refusal)) (c .file) (c .new) x r .shared) (r .a .marks) (r .b .marks)
+    go : (w : Whose) (r : DesksAnswer) → r .a .refusal ≡ 0 → r .b .refusal ≡ 0 → desksNext g w (isWritten w (r .a .refusal) (r .b .refusal)) (c .file) (c .new) x r ≡ stateOf (desksNext g w (isWritten w (r .a .refusal) (r .b .refusal)) (c .file) (c .new) x r .a) (desksNext g w (isWritten w (r .a .refusal) (r .b .refusal)) (c .file) (c .new) x r .b) (desksNext g w (isWritten w (r .a .refusal) (r .b .refusal)) (c .file) (c .new) x r .shared) (r .a .marks) (r .b .marks)
     go DeskA r p q = refl
     go DeskB r p q = refl
     go Calendars r p q = rw (p, q)
 
 -- two of them, one after the other
-pub twice-is : (g : Gate) (x : State) (c d : Call) → Accepted g x c → Accepted g (handedOn g x c) d
+pub twice-is : (g : Gate) (x : DesksState) (c d : Call) → Accepted g x c → Accepted g (handedOn g x c) d
     → handedOn g (handedOn g x c) d ≡ stateOf (nowA g d (nowA g c (x .a))) (nowB g d (nowB g c (x .b))) (nowShared g d (nowShared g c (x .shared))) (answerTo g (handedOn g x c) d .a .marks) (answerTo g (handedOn g x c) d .b .marks)
 twice-is g x c d first then =
     now-is g (handedOn g x c) d then
-    ∙ ap (λ (y : State). stateOf (nowA g d (y .a)) (nowB g d (y .b)) (nowShared g d (y .shared)) (answerTo g (handedOn g x c) d .a .marks) (answerTo g (handedOn g x c) d .b .marks)) (now-is g x c first)
+    ∙ ap (λ (y : DesksState). stateOf (nowA g d (y .a)) (nowB g d (y .b)) (nowShared g d (y .shared)) (answerTo g (handedOn g x c) d .a .marks) (answerTo g (handedOn g x c) d .b .marks)) (now-is g x c first)
 
 -- ---- two changes of two files, from any handed boards
-module _ (g : Gate) (x : State) (c d : Call) (apart : Apart c d) (both : BothOrders g x c d) where
+module _ (g : Gate) (x : DesksState) (c d : Call) (apart : Apart c d) (both : BothOrders g x c d) where
   -- where a desk sees both they have two numbers: of one bundle they are told apart by these, and no number is of both bundles
   apart-a : sees (seenByA (c .whose)) ≡ true → sees (seenByA (d .whose)) ≡ true → c .file ≡ d .file → ⊥
   apart-a p q e =

@@ -21,7 +21,7 @@ use Rattle.desks_calls.specs.declared.Whose.the-variants.{DeskA, DeskB, Calenda
 use Rattle.desks_calls.specs.declared.Seen.{Seen}
 use Rattle.desks_calls.specs.Join.{joinedSet, orElse, joinFault, deskAnswered, judgedJoin}
 use Rattle.desks_calls.specs.Desks.{seenByA, seenByB, answeredBy, deskAnswer, bundleChanged, isWritten, bothAnswered, desksAnswer}
-use Rattle.desks_calls.specs.Run.{Call, State, answerTo}
+use Rattle.desks_calls.specs.Run.{Call, DesksState, answerTo}
 use Rattle.desks_calls.proofs.Demands.{judged}
 use Rattle.desks_calls.proofs.Run.{Right}
 use Rattle.either_first.specs.Undone.{RightFor}
@@ -103,7 +103,7 @@ module _ (g : Gate) (desk shared : List ℕ) (seen : Seen) (k : ℕ) (handed : M
       marks-restored g (joinedSet desk shared) k (joinedSet desk shared k) handed (rw z (marks-long (marksOf g) (λ m. markAt g m (joinedSet desk shared)))) (rw z (full-right g (joinedSet desk shared) k)))
 
 -- ---- a change undone
-module _ (g : Gate) (x : State) (c : Call) (accepted : Accepted g x c) (room : ℕ) where
+module _ (g : Gate) (x : DesksState) (c : Call) (accepted : Accepted g x c) (room : ℕ) where
   abbrev stood : List ℕ
   stood = bundleChanged (c .whose) (x .a) (x .b) (x .shared)
 
@@ -191,8 +191,8 @@ module _ (g : Gate) (x : State) (c : Call) (accepted : Accepted g x c) (room : �
       unfolding undone
       undone-right same =
           record {
-            at-a = restored-board g (x .a) (x .shared) (seenByA (c .whose)) (c .file) (x .marksA) (ap (λ (y : State). y .marksA) (sym undone-is ∙ same));
-            at-b = restored-board g (x .b) (x .shared) (seenByB (c .whose)) (c .file) (x .marksB) (ap (λ (y : State). y .marksB) (sym undone-is ∙ same));
+            at-a = restored-board g (x .a) (x .shared) (seenByA (c .whose)) (c .file) (x .marksA) (ap (λ (y : DesksState). y .marksA) (sym undone-is ∙ same));
+            at-b = restored-board g (x .b) (x .shared) (seenByB (c .whose)) (c .file) (x .marksB) (ap (λ (y : DesksState). y .marksB) (sym undone-is ∙ same));
           }
 
       -- "and a board from full judgement"

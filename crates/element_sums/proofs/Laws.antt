@@ -15,13 +15,13 @@ use Rattle.exact_sums.proofs.Sums.{sum-next, sum-near, sum-same}
 use Rattle.exact_sums.proofs.Lists.{whole-at, wholes-same}
 use Rattle.mark_numbers.specs.Marks.{listOf}
 use Rattle.mark_numbers.proofs.Laws.{list-at, list-length}
-use Rattle.rule_cells.specs.Cells.{Table, table, startOf, isGiven, textOf, sameText, isWord, firstFrom, firstOf}
+use Rattle.rule_cells.specs.Cells.{Table, table, startOf, isGiven, textOf, sameText, isWord, firstFrom, firstThat}
 use Rattle.rule_cells.proofs.Laws.{search-hits, search-ends}
-use Rattle.amount.specs.Amount.{largestAmount, countIn, isAmountIn, amountIn}
+use Rattle.amount.specs.Amount.{largestAmount, tenThousandthsIn, isAmountIn, amountIn}
 use Rattle.amount.proofs.Laws.{amount-within}
 use Rattle.cost_element.specs.Element.{hasElement, isOf, elementOf, elementsAfter}
 use Rattle.element_sums.specs.declared.Sums.{Sums}
-use Rattle.element_sums.specs.Sums.{firstColumn, columnCount, adds, sumOf, recordFits, allFit, canSum, sumAt, noSums, sumsIn}
+use Rattle.element_sums.specs.Sums.{firstColumn, columnCount, adds, elementSum, recordFits, allFit, canSum, sumAt, noSums, sumsIn}
 use Rattle.element_sums.specs.Listed.{addsListed, sumListed, sumListedAt, sumsFound}
 
 -- ---- how far from zero
@@ -50,8 +50,8 @@ module _ (t : Table) (elements : List ℕ) (element k : ℕ) where
     unfolding addsListed
     record-passes h = so-far ∙ sym (sum-next (addsListed t elements element k) r ∙ rw (ne-eqb (getD elements r 0) element h) (+ℤ-idr (sumTo (addsListed t elements element k) r)))
 
-pub sum-of-near : (t u : Table) (n m e c : ℕ) → natAbs (sumOf t u n m e c) ≤ m * largestAmount
-unfolding sumOf adds
+pub sum-of-near : (t u : Table) (n m e c : ℕ) → natAbs (elementSum t u n m e c) ≤ m * largestAmount
+unfolding elementSum adds
 sum-of-near t u n m e c =
     sum-near (adds t u n e c) largestAmount (λ r. pick-near (eqb (elementOf t u n r) (suc e)) (amountIn t r (firstColumn + c)) largestAmount (amount-within t r (firstColumn + c))) m
 
@@ -64,8 +64,8 @@ module _ (t u : Table) (n m : ℕ) (elements : List ℕ) (are : elements ≡ lis
   listed-long : length elements ≡ m
   listed-long = ap length are ∙ list-length (elementOf t u n) m
 
-  pub sum-listed-is : (e c : ℕ) → sumListed t elements (e + 1) (firstColumn + c) ≡ sumOf t u n m e c
-  unfolding sumListed sumOf
+  pub sum-listed-is : (e c : ℕ) → sumListed t elements (e + 1) (firstColumn + c) ≡ elementSum t u n m e c
+  unfolding sumListed elementSum
   sum-listed-is e c =
       rw listed-long (sum-same (addsListed t elements (e + 1) (firstColumn + c)) (adds t u n e c) m (listed-adds e c))
 
@@ -77,15 +77,15 @@ module _ (s cells : List ℕ) (width m : ℕ) (u-bytes u-cells : List ℕ) (u-wi
   abbrev u : Table
   u = table u-bytes u-cells u-width n
 
-  sum-any : (e c : ℕ) → sumOf (table s cells width 0) (table u-bytes u-cells u-width 0) n m e c ≡ sumOf t u n m e c
-  unfolding sumOf adds elementOf isOf hasElement sameText isWord textOf amountIn countIn
+  sum-any : (e c : ℕ) → elementSum (table s cells width 0) (table u-bytes u-cells u-width 0) n m e c ≡ elementSum t u n m e c
+  unfolding elementSum adds elementOf isOf hasElement sameText isWord textOf amountIn tenThousandthsIn
   sum-any e c = refl
 
   fit-any : allFit (table s cells width 0) m ≡ allFit t m
-  unfolding allFit recordFits isAmountIn countIn
+  unfolding allFit recordFits isAmountIn tenThousandthsIn
   fit-any = refl
 
-  listed-at : leb n 4096 ≡ true → (list : List ℕ) → length list ≡ m → (j : ℕ) → sumListedAt (table s cells width 0) (elementsAfter (table s cells width 0) (table u-bytes u-cells u-width 0) n list) j ≡ sumOf (table s cells width 0) (table u-bytes u-cells u-width 0) n m (j / columnCount) (j % columnCount)
+  listed-at : leb n 4096 ≡ true → (list : List ℕ) → length list ≡ m → (j : ℕ) → sumListedAt (table s cells width 0) (elementsAfter (table s cells width 0) (table u-bytes u-cells u-width 0) n list) j ≡ elementSum (table s cells width 0) (table u-bytes u-cells u-width 0) n m (j / columnCount) (j % columnCount)
   unfolding sumListedAt elementsAfter
   listed-at can list l j =
       sum-listed-is (table s cells width 0) (table u-bytes u-cells u-width 0) n m _ (rw (can, l)) (j / columnCount) (j % columnCount)
@@ -111,7 +111,7 @@ module _ (s cells : List ℕ) (width m : ℕ) (u-bytes u-cells : List ℕ) (u-wi
       with-sums : List ℤ → Sums
       with-sums x = record { fits = true; sums = x }
 
-      at-place : (j : ℕ) → sumOf t u n m (j / columnCount) (j % columnCount) ≡ sumAt t u j
+      at-place : (j : ℕ) → elementSum t u n m (j / columnCount) (j % columnCount) ≡ sumAt t u j
       at-place j = refl
 
       same : leb n 4096 ≡ true → (j : ℕ) → sumListedAt (table s cells width 0) (elementsAfter (table s cells width 0) (table u-bytes u-cells u-width 0) n list) j ≡ sumAt t u j
@@ -128,11 +128,11 @@ unfolding wholes
 zeros-are = refl
 
 -- ---- a search for what does not fit
-module _ (breaks : ℕ → Bool) (n i : ℕ) (inv : firstOf breaks n ≡ firstFrom breaks (n - i) i) where
-  pub fit-fails : i < n → breaks i ≡ true → false ≡ eqb (firstOf breaks n) 0
+module _ (breaks : ℕ → Bool) (n i : ℕ) (inv : firstThat breaks n ≡ firstFrom breaks (n - i) i) where
+  pub fit-fails : i < n → breaks i ≡ true → false ≡ eqb (firstThat breaks n) 0
   fit-fails l h = sym (ne-eqb _ 0 (λ q. omega (arith, sym (inv ∙ search-hits breaks n i l h) ∙ q)))
 
-  pub fit-ends : n ≤ i → true ≡ eqb (firstOf breaks n) 0
+  pub fit-ends : n ≤ i → true ≡ eqb (firstThat breaks n) 0
   fit-ends l = sym (eq-eqb _ 0 (inv ∙ search-ends breaks n i l))
 
 -- ---- what the call with a list answers

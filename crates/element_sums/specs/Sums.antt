@@ -6,7 +6,7 @@ use mathlib.Core.Bool.{Bool, true, false, cond, not, _&&_}
 use lib.Dec.{leb, eqb}
 use lib.IntN.{ℤ, pos}
 use Rattle.exact_sums.specs.Sums.{sumTo, wholes}
-use Rattle.rule_cells.specs.Cells.{Table, firstOf}
+use Rattle.rule_cells.specs.Cells.{Table, firstThat}
 use Rattle.amount.specs.Amount.{isAmountIn, amountIn}
 use Rattle.cost_element.specs.Element.{elementOf}
 use Rattle.element_sums.specs.declared.Sums.{Sums}
@@ -23,15 +23,15 @@ unfoldable pub adds : Table → Table → ℕ → ℕ → ℕ → ℕ → ℤ
 adds t u n e c r = cond (eqb (elementOf t u n r) (suc e)) (amountIn t r (firstColumn + c)) (pos 0)
 
 -- over its first m records
-unfoldable pub sumOf : Table → Table → ℕ → ℕ → ℕ → ℕ → ℤ
-sumOf t u n m e c = sumTo (adds t u n e c) m
+unfoldable pub elementSum : Table → Table → ℕ → ℕ → ℕ → ℕ → ℤ
+elementSum t u n m e c = sumTo (adds t u n e c) m
 
 -- ---- "A set with any other amount … is left out whole"
 unfoldable pub recordFits : Table → ℕ → Bool
-recordFits t r = eqb (firstOf (λ (c : ℕ). not (isAmountIn t r (firstColumn + c))) columnCount) 0
+recordFits t r = eqb (firstThat (λ (c : ℕ). not (isAmountIn t r (firstColumn + c))) columnCount) 0
 
 unfoldable pub allFit : Table → ℕ → Bool
-allFit t m = eqb (firstOf (λ (r : ℕ). not (recordFits t r)) m) 0
+allFit t m = eqb (firstThat (λ (r : ℕ). not (recordFits t r)) m) 0
 
 -- ---- Together: whether all amounts fit, and then the sums, element by element. No table has over 4,096 records.
 unfoldable pub canSum : Table → Table → Bool
@@ -39,7 +39,7 @@ canSum t u = leb (t .records) 4096 && (leb (u .records) 4096 && allFit t (t .rec
 
 -- the sum at place i of 24: of element i / 6 and column i % 6
 unfoldable pub sumAt : Table → Table → ℕ → ℤ
-sumAt t u i = sumOf t u (u .records) (t .records) (i / columnCount) (i % columnCount)
+sumAt t u i = elementSum t u (u .records) (t .records) (i / columnCount) (i % columnCount)
 
 abbrev pub noSums : Sums
 noSums = record { fits = false; sums = wholes (λ i. pos 0) 24 }

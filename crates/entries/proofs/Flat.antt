@@ -16,7 +16,7 @@ use Rattle.bundle_bytes.proofs.Laws.{written-none, written-fits, written-length
 use Rattle.parts.specs.Part.{partOf}
 use Rattle.parts.proofs.Laws.{part-is}
 use Rattle.entries.specs.declared.Entry.{Entry}
-use Rattle.entries.specs.Flat.{numbersOf, flatOf, entryIn, entriesIn}
+use Rattle.entries.specs.Flat.{entryNumbers, flatOf, entryIn, entriesIn}
 
 -- ---- lists written one behind the other
 module _ (d : List ℕ) (at : ℕ) where
@@ -49,23 +49,23 @@ module _ (d : List ℕ) (at : ℕ) where
 
 -- ---- entries as numbers
 pub flat-long : (es : List Entry) → length (flatOf es) ≡ 4 * length es
-unfolding flatOf numbersOf
+unfolding flatOf entryNumbers
 flat-long [] = refl
 flat-long (e ∷ es) = omega (arith, flat-long es)
 
 pub flat-join : (es fs : List Entry) → flatOf (es ++ fs) ≡ flatOf es ++ flatOf fs
 unfolding flatOf
 flat-join [] fs = refl
-flat-join (e ∷ es) fs = ap (λ r. numbersOf e ++ r) (flat-join es fs) ∙ sym (append-assoc (numbersOf e) (flatOf es) (flatOf fs))
+flat-join (e ∷ es) fs = ap (λ r. entryNumbers e ++ r) (flat-join es fs) ∙ sym (append-assoc (entryNumbers e) (flatOf es) (flatOf fs))
 
-pub flat-one : (e : Entry) → flatOf (e ∷ []) ≡ numbersOf e
-unfolding flatOf numbersOf
+pub flat-one : (e : Entry) → flatOf (e ∷ []) ≡ entryNumbers e
+unfolding flatOf entryNumbers
 flat-one e = refl
 
 -- the four stores of an entry
-pub entry-stored : (d : List ℕ) (at : ℕ) (e : Entry) → at + 4 ≤ length d → set (set (set (set d at (e .start)) (at + 1) (e .length)) (at + 2) (e .sum)) (at + 3) (e .«record») ≡ written d at (numbersOf e)
-unfolding numbersOf
-entry-stored d at e l = rw (add-two, add-three, add-one at) (sets-eq (numbersOf e) d at l ∙ sym (written-fits d at (numbersOf e) l))
+pub entry-stored : (d : List ℕ) (at : ℕ) (e : Entry) → at + 4 ≤ length d → set (set (set (set d at (e .start)) (at + 1) (e .length)) (at + 2) (e .sum)) (at + 3) (e .«record») ≡ written d at (entryNumbers e)
+unfolding entryNumbers
+entry-stored d at e l = rw (add-two, add-three, add-one at) (sets-eq (entryNumbers e) d at l ∙ sym (written-fits d at (entryNumbers e) l))
   where
     add-two : at + 2 ≡ suc (suc at)
     add-two = omega arith
@@ -82,8 +82,8 @@ map-join f (x ∷ xs) ys = ap (λ r. f x ∷ r) (map-join f xs ys)
 pub record Listed (f : ℕ → Entry) (d : List ℕ) (at : ℕ) (order : List ℕ) (i : ℕ) (work : List ℕ) : Type 0 where
   pub is : work ≡ written d at (flatOf (map f (take i order)))
 
-four-long : (e : Entry) → length (numbersOf e) ≡ 4
-unfolding numbersOf
+four-long : (e : Entry) → length (entryNumbers e) ≡ 4
+unfolding entryNumbers
 four-long e = refl
 
 module _ (f : ℕ → Entry) (d : List ℕ) (at : ℕ) (order : List ℕ) where
@@ -95,17 +95,17 @@ module _ (f : ℕ → Entry) (d : List ℕ) (at : ℕ) (order : List ℕ) where
   flat-size i l = omega (arith, flat-long (map f (take i order)), length-map (take i order) f, length-take-le i order l)
 
   module _ {i : ℕ} {work : List ℕ} (so : Listed f d at order i work) where
-    pub list-more : i < length order → at + 4 * length order ≤ length d → {e : Entry} → e ≡ f (getD order i 0) → {place : ℕ} → place ≡ at + 4 * i → {last : List ℕ} → last ≡ written work place (numbersOf e) → Listed f d at order (i + 1) last
+    pub list-more : i < length order → at + 4 * length order ≤ length d → {e : Entry} → e ≡ f (getD order i 0) → {place : ℕ} → place ≡ at + 4 * i → {last : List ℕ} → last ≡ written work place (entryNumbers e) → Listed f d at order (i + 1) last
     list-more l room {e} e-is {place} place-is last-is =
         let so-far = flatOf (map f (take i order)) in
         let long : length so-far ≡ 4 * i = flat-size i (omega arith) in
-        let next : flatOf (map f (take (i + 1) order)) ≡ so-far ++ numbersOf e = rw (add-one i, take-suc order i 0 l, map-join f (take i order) (getD order i 0 ∷ []), ← e-is, flat-join (map f (take i order)) (e ∷ [])) (ap (λ r. so-far ++ r) (flat-one e)) in
+        let next : flatOf (map f (take (i + 1) order)) ≡ so-far ++ entryNumbers e = rw (add-one i, take-suc order i 0 l, map-join f (take i order) (getD order i 0 ∷ []), ← e-is, flat-join (map f (take i order)) (e ∷ [])) (ap (λ r. so-far ++ r) (flat-one e)) in
         record {
           is =
               last-is
-              ∙ ap (λ w. written w place (numbersOf e)) (so .is)
-              ∙ ap (λ n. written (written d at so-far) n (numbersOf e)) (place-is ∙ ap (λ n. at + n) (sym long))
-              ∙ written-on d at so-far (numbersOf e) (omega (arith, long, four-long e))
+              ∙ ap (λ w. written w place (entryNumbers e)) (so .is)
+              ∙ ap (λ n. written (written d at so-far) n (entryNumbers e)) (place-is ∙ ap (λ n. at + n) (sym long))
+              ∙ written-on d at so-far (entryNumbers e) (omega (arith, long, four-long e))
               ∙ ap (λ v. written d at v) (sym next);
         }
 

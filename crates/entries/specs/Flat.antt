@@ -10,12 +10,12 @@ use Rattle.entries.specs.declared.Entry.{Entry}
 use Rattle.entries.specs.Entries.{entriesOf}
 
 -- ---- Entries as numbers, and back
-unfoldable pub numbersOf : Entry → List ℕ
-numbersOf e = e .start ∷ e .length ∷ e .sum ∷ e .«record» ∷ []
+unfoldable pub entryNumbers : Entry → List ℕ
+entryNumbers e = e .start ∷ e .length ∷ e .sum ∷ e .«record» ∷ []
 
 unfoldable pub flatOf : List Entry → List ℕ
 flatOf [] = []
-flatOf (e ∷ es) = numbersOf e ++ flatOf es
+flatOf (e ∷ es) = entryNumbers e ++ flatOf es
 
 unfoldable pub entryIn : List ℕ → ℕ → Entry
 entryIn flat at =

@@ -10,7 +10,7 @@ ghost use Rattle.parts.specs.Part.{partOf};
 ghost use Rattle.rule_cells.specs.Cells.{table, cellOf};
 ghost use Rattle.key_order.specs.Order.{areFit};
 ghost use Rattle.entries.specs.Entries.{wrapped, entryOf, sumAlone, entriesOf};
-ghost use Rattle.entries.specs.Flat.{numbersOf, flatOf, listedIn};
+ghost use Rattle.entries.specs.Flat.{entryNumbers, flatOf, listedIn};
 use key_order::key_order;
 use key_sum::key_sum;
 use rule_key::Key;
@@ -75,7 +75,7 @@ fn entry_of(s: &[u8], cells: &[u32], width: usize, k: usize, r: u32) -> Entry
 // Writes an entry's four numbers.
 fn put_entry(work: &mut [u32], at: usize, e: Entry)
     requires { ⌜ at + 4 ≤ length (now work) ⌝ }
-    ensures { λ _. ⌜ now (work .exit) ≡ written (now (work .entry)) at (numbersOf e) ⌝ }
+    ensures { λ _. ⌜ now (work .exit) ≡ written (now (work .entry)) at (entryNumbers e) ⌝ }
 {
     work[at] = e.start;
     work[at + 1] = e.length;

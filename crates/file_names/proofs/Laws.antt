@@ -8,7 +8,7 @@ use lib.ListN.{length, take, drop, List·getD-eq-default}
 use lib.Seq.{paste-zero}
 use lib.Dec.{leb, eqb}
 use borrow.Author.Tests.{lt-ltb, le-ltb, le-leb, lt-leb, eq-eqb, ne-eqb}
-use Rattle.table_rows.specs.Ascii.{codes}
+use Rattle.json_bytes.specs.Ascii.{codes}
 use Rattle.parts.specs.Part.{partOf}
 use Rattle.table_rows.specs.Rows.{countBefore}
 use Rattle.table_rows.proofs.Laws.{upFrom, each, count-past}

@@ -24,7 +24,7 @@ use Rattle.gate_lists.specs.declared.Which.{Which}
 use Rattle.gate_lists.specs.declared.Which.the-variants.{Schedule, Baseline, Contract}
 use Rattle.gate_names.specs.Names.{fileNameOf}
 use Rattle.folder.specs.Answers.{Bundled}
-use Rattle.folder.specs.Path.{pathPut, pathLength}
+use Rattle.folder.specs.Path.{pathPut, folderPathLength}
 
 module _ (n : ℕ) (s : List ℕ) (k : ℕ) (f : File) (out : List ℕ) where
   fitting : ℕ
@@ -56,12 +56,12 @@ module _ (which : Which) (path : List ℕ) (folder k : ℕ) {slash end : ℕ} {m
   pub path-is : exit ≡ pathPut which path folder k .bytes
   path-is = ap (λ (o : Output). o .bytes) whole
 
-  pub path-fits : end < length exit → end ≡ pathLength which path folder k
-  unfolding pathLength
+  pub path-fits : end < length exit → end ≡ folderPathLength which path folder k
+  unfolding folderPathLength
   path-fits l = rw (← whole, lt-ltb end (length path) (omega arith))
 
-  pub path-does-not : length exit ≤ end → 0 ≡ pathLength which path folder k
-  unfolding pathLength
+  pub path-does-not : length exit ≤ end → 0 ≡ folderPathLength which path folder k
+  unfolding folderPathLength
   path-does-not l = rw (← whole, le-ltb end (length path) (omega arith))
 
 -- ---- every gate has files

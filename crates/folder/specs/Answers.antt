@@ -9,10 +9,10 @@ use Rattle.folder.specs.declared.Found.{Found}
 use Rattle.folder.specs.declared.Found.the-variants.{Bytes, Nothing, Failed}
 
 -- a file that was read into a buffer of that length
-abbrev pub Within : Found → ℕ → Type 0
-Within (Bytes n) most = n ≤ most
-Within Nothing most = Unit {0}
-Within Failed most = Unit {0}
+abbrev pub FoundWithin : Found → ℕ → Type 0
+FoundWithin (Bytes n) most = n ≤ most
+FoundWithin Nothing most = Unit {0}
+FoundWithin Failed most = Unit {0}
 
 -- no bundle, 0, or one of n files and of that length at the front of a buffer that is not refused
 abbrev pub Bundled : ℕ → ℕ → List ℕ → Type 0

@@ -13,6 +13,6 @@ unfoldable pub pathPut : Which → List ℕ → ℕ → ℕ → Output
 pathPut which path folder k = put (outputAt path folder) (47 ∷ fileNameOf which k)
 
 -- the path's length; 0 where the buffer has no room for it and a byte more, since a path ends with a zero byte outside
-unfoldable pub pathLength : Which → List ℕ → ℕ → ℕ → ℕ
-pathLength which path folder k =
+unfoldable pub folderPathLength : Which → List ℕ → ℕ → ℕ → ℕ
+folderPathLength which path folder k =
     cond (ltb (pathPut which path folder k .place) (length path)) (pathPut which path folder k .place) 0

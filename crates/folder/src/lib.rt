@@ -6,8 +6,8 @@ ghost use mathlib.Core.Path.{_≡_};
 ghost use Prim.Native.Nat.{_≤_};
 ghost use lib.ListN.{length};
 ghost use Rattle.gate_lists.specs.Which.{gateCalled};
-ghost use Rattle.folder.specs.Answers.{Within, Bundled};
-ghost use Rattle.folder.specs.Path.{pathPut, pathLength};
+ghost use Rattle.folder.specs.Answers.{FoundWithin, Bundled};
+ghost use Rattle.folder.specs.Path.{pathPut, folderPathLength};
 use bundle::make_bundle;
 use bundle_bytes::put_part;
 use gate_lists::Which;
@@ -43,7 +43,7 @@ pub fn argument(i: usize, path: &mut [u8]) -> usize
 
 // Reads a file of that name to its end, or until the buffer is full; says so where it cannot be read.
 pub fn read_named(name: &[u8], buf: &mut [u8]) -> Found
-    ensures { λ r. ⌜ Within r (length (now (buf .exit))) ⌝ }
+    ensures { λ r. ⌜ FoundWithin r (length (now (buf .exit))) ⌝ }
 {
     let fd = os::open_read(name);
     if fd < 0 {
@@ -95,7 +95,7 @@ fn complain_long(path: &[u8], folder: usize) {
 // The length of the path of the gate's file k in the folder that the first `folder` bytes of `path` name,
 // which it puts there; 0, which it says, where it has no room.
 pub fn path_of(which: Which, path: &mut [u8], folder: usize, k: usize) -> usize
-    ensures { λ r. ⌜ r ≡ pathLength which (now (path .entry)) folder k ⌝ }
+    ensures { λ r. ⌜ r ≡ folderPathLength which (now (path .entry)) folder k ⌝ }
     ensures { λ _. ⌜ now (path .exit) ≡ pathPut which (now (path .entry)) folder k .bytes ⌝ }
 {
     let name = put_byte(path, folder, b'/');

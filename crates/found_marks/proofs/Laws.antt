@@ -18,7 +18,7 @@ use Rattle.table_rows.specs.Rows.{cellAt, tablesIn, firstField, fieldCount}
 use Rattle.table_rows.proofs.Laws.{tables-length}
 use Rattle.rule_cells.specs.Cells.{Table, table}
 use Rattle.rule_shape.specs.declared.Rule.{Rule}
-use Rattle.rule_shape.specs.Rule.{firstOf, secondOf}
+use Rattle.rule_shape.specs.Rule.{firstFileOf, secondFileOf}
 use Rattle.rules.specs.declared.Break.{Break}
 use Rattle.rules.specs.Judge.{ruleBreak, isJudged, markOf}
 use Rattle.found_marks.specs.Found.{countIn, tableIn, ruleMarkIn, foundMark}
@@ -50,9 +50,9 @@ module _ (forms fields : List ℕ) (k form : ℕ) (form-is : form ≡ cellAt for
   count-table l n is = rw (← form-is, le-ltb 1 form l) is
 
 -- ---- the mark of a rule, as the code finds it
-module _ (values texts : List ℕ) (rule : Rule) (files : ℕ → File) (count : ℕ → ℕ) (starts work records kinds : List ℕ) (first second : ℕ) (first-is : first ≡ firstOf rule) (second-is : second ≡ secondOf rule)
+module _ (values texts : List ℕ) (rule : Rule) (files : ℕ → File) (count : ℕ → ℕ) (starts work records kinds : List ℕ) (first second : ℕ) (first-is : first ≡ firstFileOf rule) (second-is : second ≡ secondFileOf rule)
     (kind other : ℕ) (kind-is : kind ≡ getD kinds first 0) (other-is : other ≡ getD kinds second 0) (judged : Bool) (judged-is : judged ≡ isJudged kind other) where
-  judged-by : (t : Bool) → judged ≡ t → isJudged (getD kinds (firstOf rule) 0) (getD kinds (secondOf rule) 0) ≡ t
+  judged-by : (t : Bool) → judged ≡ t → isJudged (getD kinds (firstFileOf rule) 0) (getD kinds (secondFileOf rule) 0) ≡ t
   judged-by t e = rw (← first-is, ← second-is, ← kind-is, ← other-is, ← judged-is) e
 
   pub rule-unjudged : judged ≡ false → notJudged ≡ ruleMarkIn values texts (tableIn files count starts work records) kinds rule
@@ -71,15 +71,15 @@ module _ (values texts : List ℕ) (rule : Rule) (files : ℕ → File) (count :
 
 -- and that of any mark which is no file's own
 module _ (n : ℕ) (rule : ℕ → Rule) (values texts : List ℕ) (tables : ℕ → Table) (own : Marks) (m : ℕ) (l : n ≤ m) where
-  pub second-missing : (second : ℕ) → second ≡ secondOf (rule (m - n)) → n ≤ second → notJudged ≡ foundMark n rule values texts tables own m
+  pub second-missing : (second : ℕ) → second ≡ secondFileOf (rule (m - n)) → n ≤ second → notJudged ≡ foundMark n rule values texts tables own m
   unfolding foundMark
-  second-missing second is h = rw (le-ltb m n l, ← is, le-ltb second n h, and-false (ltb (firstOf (rule (m - n))) n))
+  second-missing second is h = rw (le-ltb m n l, ← is, le-ltb second n h, and-false (ltb (firstFileOf (rule (m - n))) n))
 
-  module _ (first : ℕ) (first-is : first ≡ firstOf (rule (m - n))) where
+  module _ (first : ℕ) (first-is : first ≡ firstFileOf (rule (m - n))) where
     pub first-missing : n ≤ first → notJudged ≡ foundMark n rule values texts tables own m
     unfolding foundMark
     first-missing h = rw (le-ltb m n l, ← first-is, le-ltb first n h)
 
-    pub rule-found : first < n → (second : ℕ) → second ≡ secondOf (rule (m - n)) → second < n → (r : Mark) → r ≡ ruleMarkIn values texts tables (own .kinds) (rule (m - n)) → r ≡ foundMark n rule values texts tables own m
+    pub rule-found : first < n → (second : ℕ) → second ≡ secondFileOf (rule (m - n)) → second < n → (r : Mark) → r ≡ ruleMarkIn values texts tables (own .kinds) (rule (m - n)) → r ≡ foundMark n rule values texts tables own m
     unfolding foundMark
     rule-found h second is g r r-is = rw (le-ltb m n l, ← first-is, lt-ltb first n h, ← is, lt-ltb second n g) r-is

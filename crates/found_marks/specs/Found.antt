@@ -12,7 +12,7 @@ use Rattle.mark_numbers.specs.Marks.{Marks, markIn, notJudged}
 use Rattle.table_rows.specs.Rows.{cellAt, fieldCount}
 use Rattle.rule_cells.specs.Cells.{Table, table}
 use Rattle.rule_shape.specs.declared.Rule.{Rule}
-use Rattle.rule_shape.specs.Rule.{firstOf, secondOf}
+use Rattle.rule_shape.specs.Rule.{firstFileOf, secondFileOf}
 use Rattle.rules.specs.Judge.{ruleBreak, isJudged, markOf}
 
 -- how many fields a file has, a fixed text none
@@ -27,10 +27,10 @@ tableIn files count starts work records k =
 -- the mark of a rule from such tables and the kinds of the files' marks
 unfoldable pub ruleMarkIn : List ℕ → List ℕ → (ℕ → Table) → List ℕ → Rule → Mark
 ruleMarkIn values texts tables kinds r =
-    markOf (isJudged (getD kinds (firstOf r) 0) (getD kinds (secondOf r) 0)) (ruleBreak values texts r (tables (firstOf r)) (tables (secondOf r)))
+    markOf (isJudged (getD kinds (firstFileOf r) 0) (getD kinds (secondFileOf r) 0)) (ruleBreak values texts r (tables (firstFileOf r)) (tables (secondFileOf r)))
 
 -- mark m, of n files' marks and those of the rules
 unfoldable pub foundMark : ℕ → (ℕ → Rule) → List ℕ → List ℕ → (ℕ → Table) → Marks → ℕ → Mark
 foundMark n rule values texts tables own m =
     cond (ltb m n) (markIn own m)
-    (cond (ltb (firstOf (rule (m - n))) n && ltb (secondOf (rule (m - n))) n) (ruleMarkIn values texts tables (own .kinds) (rule (m - n))) notJudged)
+    (cond (ltb (firstFileOf (rule (m - n))) n && ltb (secondFileOf (rule (m - n))) n) (ruleMarkIn values texts tables (own .kinds) (rule (m - n))) notJudged)

@@ -10,7 +10,7 @@ use borrow.Author.Tests.{eq-eqb, ne-eqb, eqb-true, lt-ltb, le-ltb, le-leb, lt-le
 use lib.ListN.{length, set, take, drop, replicate, length-append}
 use lib.Seq.{take-append-seam}
 use lib.Dec.{eqb, ltb, leb}
-use Rattle.table_rows.specs.Ascii.{codes}
+use Rattle.json_bytes.specs.Ascii.{codes}
 use Rattle.table_rows.proofs.Laws.{all, all-total}
 use Rattle.parts.specs.Part.{partOf}
 use Rattle.parts.specs.Files.{bytesOf}
@@ -29,8 +29,8 @@ use Rattle.gate_lists.specs.Which.{gateCalled}
 use Rattle.schedule.proofs.Laws.{files-are}
 use Rattle.baseline.proofs.Laws.{files-are as baseline-files}
 use Rattle.contract.proofs.Laws.{files-are as contract-files}
-use Rattle.gate_names.specs.Names.{contractFiles, contractFile, fileNameOf}
-use Rattle.gate_c.specs.Calls.{whichOf, gateNumbered, fileFault, unlessRefused, presentNumber, placeOf, emptyOf, nameOf, lengthIn}
+use Rattle.gate_names.specs.Names.{contractFileNames, contractFile, fileNameOf}
+use Rattle.gate_c.specs.Calls.{whichOf, gateNumbered, fileFault, unlessRefused, presentNumber, filePlace, emptyOf, nameOf, lengthIn}
 
 -- ---- a file asked for: refused, and not
 module _ (gate : ℕ) (s : List ℕ) (file : ℕ) (present place : List ℕ) where
@@ -63,14 +63,14 @@ module _ (gate : ℕ) (s : List ℕ) (file : ℕ) (present place : List ℕ) whe
       go false false u e f z = absurd (omega arith)
 
   abbrev Asked : ℕ → List ℕ → List ℕ → Type 0
-  Asked r last last′ = (r ≡ fileFault gate s file present place) × ((last ≡ unlessRefused r (set present 0 (presentNumber s file)) present) × (last′ ≡ unlessRefused r (placeOf s file place) place))
+  Asked r last last′ = (r ≡ fileFault gate s file present place) × ((last ≡ unlessRefused r (set present 0 (presentNumber s file)) present) × (last′ ≡ unlessRefused r (filePlace s file place) place))
 
   pub asked-ill : {f : ℕ} → f ≡ fileFault gate s file present place → (f ≡ 0 → ⊥) → Asked f present place
   unfolding unlessRefused
   asked-ill e some = (e, (rw (ne-eqb _ 0 some), rw (ne-eqb _ 0 some)))
 
   pub asked-well : {f n from size : ℕ} → f ≡ fileFault gate s file present place → f ≡ 0 → n ≡ presentNumber s file → from ≡ offsetAt s file → size ≡ lengthAt s file → Asked 0 (set present 0 n) (set (set place 0 from) 1 size)
-  unfolding unlessRefused placeOf
+  unfolding unlessRefused filePlace
   asked-well e none p q r = (sym none ∙ e, (rw p, rw (q, r)))
 
 -- what stands there is the file, of a bundle of n
@@ -148,15 +148,15 @@ files-short : all short fileNames ≡ true
 unfolding all fileNames codes
 files-short = refl
 
-contract-short : all short contractFiles ≡ true
-unfolding all contractFiles codes
+contract-short : all short contractFileNames ≡ true
+unfolding all contractFileNames codes
 contract-short = refl
 
 file-short : (which : Which) (file : ℕ) → length (fileNameOf which file) ≤ 36
 unfolding fileNameOf fileName contractFile
 file-short Schedule file = leb-true _ 36 (all-total short [] fileNames files-short refl file)
 file-short Baseline file = leb-true _ 36 (all-total short [] fileNames files-short refl file)
-file-short Contract file = leb-true _ 36 (all-total short [] contractFiles contract-short refl file)
+file-short Contract file = leb-true _ 36 (all-total short [] contractFileNames contract-short refl file)
 
 pub file-unknown : (gate file : ℕ) → 2 < gate → [] ≡ nameOf gate file
 unfolding nameOf

@@ -11,7 +11,7 @@ use Rattle.reason_answer.specs.declared.Reason.{Reason}
 use Rattle.reason_answer.specs.declared.Reason.the-variants.{Refused}
 use Rattle.reason_numbers.specs.Numbers.{toldNumbers, toldOver}
 use Rattle.parts.specs.Part.{partOf}
-use Rattle.table_rows.specs.Ascii.{codes}
+use Rattle.json_bytes.specs.Ascii.{codes}
 use Rattle.table_rows.specs.Rows.{Field}
 use Rattle.table_rows.proofs.Laws.{all, all-total}
 use Rattle.table_fields.specs.Fields.{tables, fieldsOf}

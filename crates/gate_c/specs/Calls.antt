@@ -92,8 +92,8 @@ unfoldable pub presentNumber : List ℕ → ℕ → ℕ
 presentNumber s file = cond (isOmitted s file) 0 1
 
 -- where it stands, and how long it is: the header's own numbers, 0 and 0 for an omitted one
-unfoldable pub placeOf : List ℕ → ℕ → List ℕ → List ℕ
-placeOf s file place = set (set place 0 (offsetAt s file)) 1 (lengthAt s file)
+unfoldable pub filePlace : List ℕ → ℕ → List ℕ → List ℕ
+filePlace s file place = set (set place 0 (offsetAt s file)) 1 (lengthAt s file)
 
 -- ---- The bundle with no files, and the name of a file; nothing for a gate or a file that there is not
 unfoldable pub emptyOf : ℕ → List ℕ

@@ -11,7 +11,7 @@ ghost use Rattle.bundle_bytes.specs.Pieces.{written};
 ghost use Rattle.bundle_layout.specs.Put.{emptyBundle};
 ghost use Rattle.gate_calls.specs.Lent.{judgeLeft, changeLeft};
 ghost use Rattle.gate_calls.specs.Reasons.{refusalOf, reasonLeft};
-ghost use Rattle.gate_c.specs.Calls.{unlessRefused, whichOf, gateNumbered, boardFault, judgeCalled, callFault, fileHanded, tryCalled, makeCalled, outputCalled, sizeAfter, textCalled, freshCalled, fileFault, presentNumber, placeOf, emptyOf, nameOf, lengthIn};
+ghost use Rattle.gate_c.specs.Calls.{unlessRefused, whichOf, gateNumbered, boardFault, judgeCalled, callFault, fileHanded, tryCalled, makeCalled, outputCalled, sizeAfter, textCalled, freshCalled, fileFault, presentNumber, filePlace, emptyOf, nameOf, lengthIn};
 ghost use Rattle.gate_c.specs.Reasons.{reasonCalled, fieldNamed};
 use bundle::Made;
 use bundle::is_omitted;
@@ -280,7 +280,7 @@ pub extern "C" fn knotsaddle_file(
 ) -> u32
     ensures { λ r. ⌜ r ≡ fileFault gate (now (bundle .entry)) file (now (present .entry)) (now (place .entry)) ⌝ }
     ensures { λ r. ⌜ now (present .exit) ≡ unlessRefused r (set (now (present .entry)) 0 (presentNumber (now (bundle .entry)) file)) (now (present .entry)) ⌝ }
-    ensures { λ r. ⌜ now (place .exit) ≡ unlessRefused r (placeOf (now (bundle .entry)) file (now (place .entry))) (now (place .entry)) ⌝ }
+    ensures { λ r. ⌜ now (place .exit) ≡ unlessRefused r (filePlace (now (bundle .entry)) file (now (place .entry))) (now (place .entry)) ⌝ }
 {
     let answer = file_fault(gate, bundle, file, present, place);
     if answer != 0 {

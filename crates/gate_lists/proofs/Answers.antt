@@ -25,7 +25,7 @@ use Rattle.gate_marks.proofs.Laws.{mark-below, work-same}
 use Rattle.gate_calls.specs.Calls.{answer, changedMarks, judgement, accepted, answered, tried, changeMade}
 use Rattle.gate_calls.specs.Lent.{lentFault, over, judgedIn, triedIn, madeIn, outputIn, workLeft, judgeLeft, changeLeft}
 use Rattle.gate_calls.proofs.Lent.{lent-lists, lent-room, lent-judge, lent-try, lent-make, lent-output, lent-wrong, lent-refused, lent-untouched}
-use Rattle.standing.specs.Standing.{standing, placed}
+use Rattle.standing.specs.Standing.{standing, standingWith}
 use Rattle.standing.proofs.Laws.{placed-fits}
 use Rattle.schedule.specs.Schedule.{schedule}
 use Rattle.schedule.proofs.Laws.{files-are}
@@ -260,10 +260,10 @@ pub bundle-stands : (s b c stand₀ stand : List ℕ) {n : ℕ} (m : ℕ) → n 
 bundle-stands s b c stand₀ stand m n-is room e i l = rw e (stands-bundle s stand₀ b c _ room i (rw n-is l))
 
 pub change-stands : (s new c stand₀ stand last : List ℕ) {n which : ℕ} (m k : ℕ) (present : Bool) → n ≡ m → n ≤ length stand₀ / 3 → k < m → stand ≡ standsIn s n stand₀ → which ≡ cond present 2 0
-    → last ≡ cond (ltb k (length stand / 3)) (placed stand k which 0 (length new)) stand → (i : ℕ) → i < m → standing s new c last i ≡ filesAfter s k (newFile present new) i
+    → last ≡ cond (ltb k (length stand / 3)) (standingWith stand k which 0 (length new)) stand → (i : ℕ) → i < m → standing s new c last i ≡ filesAfter s k (newFile present new) i
 change-stands s new c stand₀ stand last {n} {which} m k present n-is room small e w is i l =
     let long : k < length stand / 3 = rw (ap length e ∙ stands-length s stand₀ n) (omega arith) in
-    let put : last ≡ placed (standsIn s n stand₀) k (cond present 2 0) 0 (length new) = is ∙ placed-fits stand k which 0 (length new) long ∙ rw (e, w) in
+    let put : last ≡ standingWith (standsIn s n stand₀) k (cond present 2 0) 0 (length new) = is ∙ placed-fits stand k which 0 (length new) long ∙ rw (e, w) in
     rw put (stands-after s new c stand₀ n k room (rw n-is small) present i (rw n-is l))
 
 -- a change whose fate is known

@@ -16,7 +16,7 @@ use borrow.Author.Tests.{le-leb, eqb-true, eqb-false}
 use Rattle.parts.specs.Part.{partOf}
 use Rattle.parts.specs.Files.{File, Left, Given, newFile}
 use Rattle.parts.proofs.Laws.{part-is}
-use Rattle.standing.specs.Standing.{sliceOf, standing, startStanding, placed}
+use Rattle.standing.specs.Standing.{sliceOf, standing, startStanding, standingWith}
 use Rattle.standing.proofs.Laws.{slice-first, slice-second, placed-length, placed-fits, placed-there, placed-nowhere, placed-other, start-placed, start-kept}
 use Rattle.bundle_bytes.specs.Pieces.{changed}
 use Rattle.bundle_bytes.proofs.Laws.{changed-same, changed-other}
@@ -34,7 +34,7 @@ module _ (s stand : List ℕ) where
   -- one file more, as the code puts it down
   pub stands-next : (k : ℕ) {which from to : ℕ} {list last : List ℕ} → list ≡ standsIn s k stand → k < length stand / 3
       → which ≡ cond (isOmitted s k) 0 1 → from ≡ offsetAt s k → to ≡ offsetAt s k + lengthAt s k
-      → last ≡ cond (ltb k (length list / 3)) (placed list k which from to) list → last ≡ standsIn s (k + 1) stand
+      → last ≡ cond (ltb k (length list / 3)) (standingWith list k which from to) list → last ≡ standsIn s (k + 1) stand
   unfolding standsIn
   stands-next k {which} {from} {to} {list} {last} e l w f t is =
       is ∙ placed-fits list k which from to (rw (ap length e ∙ stands-length k) l) ∙ rw (e, w, f, t, add-one k)
@@ -48,7 +48,7 @@ module _ (s stand : List ℕ) where
         room : k < length (standsIn s k stand) / 3
         room = rw (stands-length k) l
 
-        go : (t : Bool) → standing s b c (placed (standsIn s k stand) k (cond t 0 1) (offsetAt s k) (offsetAt s k + lengthAt s k)) k ≡ cond t Left (Given (partOf s (offsetAt s k) (offsetAt s k + lengthAt s k)))
+        go : (t : Bool) → standing s b c (standingWith (standsIn s k stand) k (cond t 0 1) (offsetAt s k) (offsetAt s k + lengthAt s k)) k ≡ cond t Left (Given (partOf s (offsetAt s k) (offsetAt s k + lengthAt s k)))
         go true = placed-nowhere (standsIn s k stand) k 0 _ _ room s b c refl
         go false = placed-there (standsIn s k stand) k 1 _ _ room s b c (λ e. omega arith) ∙ ap (λ a. Given (partOf a (offsetAt s k) (offsetAt s k + lengthAt s k))) (slice-first s b c 1 refl)
 
@@ -90,22 +90,22 @@ whole-part new =
     part-is new 0 (length new) (omega arith) (omega arith) ∙ rw n (take-all (length new) new (omega arith))
 
 module _ (s new c stand : List ℕ) (n k : ℕ) (room : n ≤ length stand / 3) (small : k < n) (present : Bool) where
-  new-there : standing s new c (placed (standsIn s n stand) k (cond present 2 0) 0 (length new)) k ≡ newFile present new
+  new-there : standing s new c (standingWith (standsIn s n stand) k (cond present 2 0) 0 (length new)) k ≡ newFile present new
   unfolding newFile
   new-there = go present
     where
       long : k < length (standsIn s n stand) / 3
       long = rw (stands-length s stand n) (omega arith)
 
-      go : (t : Bool) → standing s new c (placed (standsIn s n stand) k (cond t 2 0) 0 (length new)) k ≡ cond t (Given new) Left
+      go : (t : Bool) → standing s new c (standingWith (standsIn s n stand) k (cond t 2 0) 0 (length new)) k ≡ cond t (Given new) Left
       go true = placed-there (standsIn s n stand) k 2 0 (length new) long s new c (λ e. omega arith) ∙ ap (λ a. Given (partOf a 0 (length new))) (slice-second s new c 2 refl) ∙ ap Given (whole-part new)
       go false = placed-nowhere (standsIn s n stand) k 0 0 (length new) long s new c refl
 
-  pub stands-after : (j : ℕ) → j < n → standing s new c (placed (standsIn s n stand) k (cond present 2 0) 0 (length new)) j ≡ filesAfter s k (newFile present new) j
+  pub stands-after : (j : ℕ) → j < n → standing s new c (standingWith (standsIn s n stand) k (cond present 2 0) 0 (length new)) j ≡ filesAfter s k (newFile present new) j
   unfolding filesAfter
   stands-after j h = go (eqb j k) refl
     where
-      go : (t : Bool) → eqb j k ≡ t → standing s new c (placed (standsIn s n stand) k (cond present 2 0) 0 (length new)) j ≡ changed (fileAt s) k (newFile present new) j
+      go : (t : Bool) → eqb j k ≡ t → standing s new c (standingWith (standsIn s n stand) k (cond present 2 0) 0 (length new)) j ≡ changed (fileAt s) k (newFile present new) j
       go true e = rw (eqb-true j k e) (new-there ∙ sym (changed-same (fileAt s) k (newFile present new)))
       go false e =
           placed-other (standsIn s n stand) k _ _ _ s new c j (eqb-false j k e) ∙ stands-bundle s stand new c n room j h ∙ sym (changed-other (fileAt s) k (newFile present new) j (eqb-false j k e))

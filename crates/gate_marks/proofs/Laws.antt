@@ -21,10 +21,10 @@ use Rattle.mark_numbers.specs.Marks.{Marks, markIn, notJudged}
 use Rattle.mark_numbers.proofs.Laws.{mark-of-marks}
 use Rattle.table_file.specs.File.{Expected}
 use Rattle.rule_shape.specs.declared.Rule.{Rule}
-use Rattle.rule_shape.specs.Rule.{firstOf, secondOf, reads}
+use Rattle.rule_shape.specs.Rule.{firstFileOf, secondFileOf, reads}
 use Rattle.gate_marks.specs.declared.Scope.{Scope}
 use Rattle.gate_marks.specs.declared.Scope.the-variants.{Full}
-use Rattle.gate_marks.specs.Gate.{Gate, marksOf, ruleOf, markReads, readsFile}
+use Rattle.gate_marks.specs.Gate.{Gate, marksOf, ruleOfMark, markReads, readsFile}
 use Rattle.gate_marks.specs.Work.{roomStart, cellsIn, readOf, workRead}
 use Rattle.gate_marks.specs.Marks.{fileMark, ruleMarkAt, markAt, fullMarks}
 use Rattle.gate_marks.specs.Again.{asked, touched, isTouched, newMark, newMarks, neededFrom, needed, isNeeded}
@@ -37,13 +37,13 @@ or-true true = refl
 or-true false = refl
 
 module _ (r : Rule) where
-  reads-first : reads r (firstOf r) ≡ true
+  reads-first : reads r (firstFileOf r) ≡ true
   unfolding reads
-  reads-first = rw (eq-eqb (firstOf r) (firstOf r) refl)
+  reads-first = rw (eq-eqb (firstFileOf r) (firstFileOf r) refl)
 
-  reads-second : reads r (secondOf r) ≡ true
+  reads-second : reads r (secondFileOf r) ≡ true
   unfolding reads
-  reads-second = rw (eq-eqb (secondOf r) (secondOf r) refl) (or-true (eqb (firstOf r) (secondOf r)))
+  reads-second = rw (eq-eqb (secondFileOf r) (secondFileOf r) refl) (or-true (eqb (firstFileOf r) (secondFileOf r)))
 
 module _ (n : ℕ) (rule : ℕ → Rule) (m : ℕ) where
   pub own-reads : m < n → markReads n rule m m ≡ true
@@ -51,11 +51,11 @@ module _ (n : ℕ) (rule : ℕ → Rule) (m : ℕ) where
   own-reads l = rw (lt-ltb m n l, eq-eqb m m refl)
 
   module _ (l : n ≤ m) where
-    pub first-reads : markReads n rule m (firstOf (rule (m - n))) ≡ true
+    pub first-reads : markReads n rule m (firstFileOf (rule (m - n))) ≡ true
     unfolding markReads
     first-reads = rw (le-ltb m n l) (reads-first (rule (m - n)))
 
-    pub second-reads : markReads n rule m (secondOf (rule (m - n))) ≡ true
+    pub second-reads : markReads n rule m (secondFileOf (rule (m - n))) ≡ true
     unfolding markReads
     second-reads = rw (le-ltb m n l) (reads-second (rule (m - n)))
 
@@ -70,10 +70,10 @@ same-mark n m a b x y u v own rule = go (ltb m n) refl (ltb a n && ltb b n) refl
 
 -- ---- so a mark is decided by the files that it reads, and by those that the set has
 module _ (g : Gate) (m : ℕ) (files others : ℕ → File) where
-  mark-by : (m < g .files → files m ≡ others m) → (g .files ≤ m → firstOf (ruleOf g m) < g .files → secondOf (ruleOf g m) < g .files → (files (firstOf (ruleOf g m)) ≡ others (firstOf (ruleOf g m))) × (files (secondOf (ruleOf g m)) ≡ others (secondOf (ruleOf g m)))) → markAt g m files ≡ markAt g m others
+  mark-by : (m < g .files → files m ≡ others m) → (g .files ≤ m → firstFileOf (ruleOfMark g m) < g .files → secondFileOf (ruleOfMark g m) < g .files → (files (firstFileOf (ruleOfMark g m)) ≡ others (firstFileOf (ruleOfMark g m))) × (files (secondFileOf (ruleOfMark g m)) ≡ others (secondFileOf (ruleOfMark g m)))) → markAt g m files ≡ markAt g m others
   unfolding markAt ruleMarkAt
   mark-by own both =
-      same-mark (g .files) m (firstOf (ruleOf g m)) (secondOf (ruleOf g m)) _ _ _ _ (λ l. ap (fileMark (g .expected m)) (own l))
+      same-mark (g .files) m (firstFileOf (ruleOfMark g m)) (secondFileOf (ruleOfMark g m)) _ _ _ _ (λ l. ap (fileMark (g .expected m)) (own l))
       (λ l a b. let same = both l a b in rw (same .0, same .1))
 
   pub mark-read : ((k : ℕ) → k < g .files → readsFile g m k ≡ true → files k ≡ others k) → markAt g m files ≡ markAt g m others

@@ -15,11 +15,11 @@ use Rattle.mark_numbers.specs.declared.Mark.{Mark}
 use Rattle.table_rows.specs.Rows.{Field}
 use Rattle.table_file.specs.File.{Form, Fixed, Single, Records, Expected, omitted, readAs, fileOf}
 use Rattle.table_file.proofs.FaultKinds.{tableKinds, table-kinds, fileKinds, countOf, cellsOf, own-room, own-kinds}
-use Rattle.table_file.specs.Table.{tableOf}
-use Rattle.rule_shape.specs.Rule.{firstOf, secondOf}
+use Rattle.table_file.specs.Table.{readTable}
+use Rattle.rule_shape.specs.Rule.{firstFileOf, secondFileOf}
 use Rattle.rules.specs.declared.Break.{Break}
 use Rattle.rules.specs.Judge.{markOf}
-use Rattle.gate_marks.specs.Gate.{Gate, ruleOf}
+use Rattle.gate_marks.specs.Gate.{Gate, ruleOfMark}
 use Rattle.gate_marks.specs.Work.{zeros, roomFor, roomOf, readOf}
 use Rattle.gate_marks.specs.Marks.{markRead, fileMark, ruleMark, ruleMarkAt, markAt}
 use Rattle.gate_marks.proofs.Rooms.{length-zeros}
@@ -60,7 +60,7 @@ array-kinds : (fields : List Field) (f : File) → length (bytesOf f) < 2 ^ 32 �
 unfolding fileMark markRead readOf fileOf omitted readAs bytesOf
 array-kinds fields Left small few = refl
 array-kinds fields (Given s) small few =
-    in-right (1 ∷ 2 ∷ []) tableKinds (tableOf false fields s (zeros (roomOf (Records fields))) .read .kind)
+    in-right (1 ∷ 2 ∷ []) tableKinds (readTable false fields s (zeros (roomOf (Records fields))) .read .kind)
     (table-kinds fields s (zeros (roomOf (Records fields))) false (own-room (Records fields) s (zeros (roomOf (Records fields))) small few (own-cells (Records fields) few)))
 
 array-rule-kinds : (judged : Bool) (b : Break) → OfArray (markOf judged b)
@@ -77,7 +77,7 @@ module _ (g : Gate) (files : ℕ → File) (small : Small g files) where
   unfolding markAt ruleMarkAt ruleMark
   mark-kinds m =
       by-test OfMark (ltb m (g .files)) _ _ (λ e. wider fileKinds markKinds refl (fileMark (g .expected m) (files m) .kind) (own-mark-kinds m (ltb-true m (g .files) e)))
-      (λ e. either OfMark (ltb (firstOf (ruleOf g m)) (g .files) && ltb (secondOf (ruleOf g m)) (g .files)) _ _ (rule-kinds _ _) refl)
+      (λ e. either OfMark (ltb (firstFileOf (ruleOfMark g m)) (g .files) && ltb (secondFileOf (ruleOfMark g m)) (g .files)) _ _ (rule-kinds _ _) refl)
 
   pub never-99 : (m : ℕ) → markAt g m files .kind ≡ 99 → ⊥
   never-99 m e = false≢true (rw e at (mark-kinds m))
@@ -87,7 +87,7 @@ module _ (g : Gate) (files : ℕ → File) (small : Small g files) where
   array-mark-kinds free m =
       by-test OfArray (ltb m (g .files)) _ _
       (λ e. own (free m (ltb-true m (g .files) e) .0) (free m (ltb-true m (g .files) e) .1) (small .bytes m (ltb-true m (g .files) e)) (small .fields m (ltb-true m (g .files) e)))
-      (λ e. either OfArray (ltb (firstOf (ruleOf g m)) (g .files) && ltb (secondOf (ruleOf g m)) (g .files)) _ _ (array-rule-kinds _ _) refl)
+      (λ e. either OfArray (ltb (firstFileOf (ruleOfMark g m)) (g .files) && ltb (secondFileOf (ruleOfMark g m)) (g .files)) _ _ (array-rule-kinds _ _) refl)
     where
       own : (fields : List Field) → g .expected m ≡ freeArray fields → length (bytesOf (files m)) < 2 ^ 32 → countOf (g .expected m .form) ≤ 64 → OfArray (fileMark (g .expected m) (files m))
       own fields e l few = rw e (array-kinds fields (files m) l (rw e at few))

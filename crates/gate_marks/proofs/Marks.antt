@@ -16,11 +16,11 @@ use Rattle.mark_numbers.specs.Marks.{Marks, marksIn, marksFrom, markIn, haveLen
 use Rattle.mark_numbers.proofs.Laws.{marks-same}
 use Rattle.table_file.specs.File.{Expected}
 use Rattle.rule_shape.specs.declared.Rule.{Rule}
-use Rattle.rule_shape.specs.Rule.{firstOf, secondOf, reads, ruleFrom}
+use Rattle.rule_shape.specs.Rule.{firstFileOf, secondFileOf, reads, ruleFrom}
 use Rattle.found_marks.specs.Found.{countIn, tableIn, ruleMarkIn, foundMark}
 use Rattle.found_marks.proofs.Laws.{and-false}
 use Rattle.gate_marks.specs.declared.Scope.{Scope}
-use Rattle.gate_marks.specs.Gate.{Gate, marksOf, ruleOf, markReads, expectedIn, gateFrom}
+use Rattle.gate_marks.specs.Gate.{Gate, marksOf, ruleOfMark, markReads, expectedIn, gateFrom}
 use Rattle.gate_marks.specs.Work.{widthOf, roomStart, cellsIn, readOf, workRead}
 use Rattle.gate_marks.specs.Marks.{markRead, fileMark, tableOf, ruleMark, ruleMarkAt, markAt}
 use Rattle.gate_marks.specs.Again.{touched, isTouched, newMark, newMarks, neededFrom, needed, isNeeded, workJudged, canJudge, hasRoom, hasLists, workspaceOf, marksAfter, workAfterwards}
@@ -29,12 +29,12 @@ use Rattle.gate_marks.proofs.Rooms.{width-is, room-by}
 use Rattle.gate_marks.proofs.Laws.{own-reads, first-reads, second-reads, same-mark, needed-by}
 
 -- ---- whether mark m reads a file, as the code asks it of a rule
-module _ (n m k : ℕ) (rule : ℕ → Rule) (l : n ≤ m) (first : ℕ) (first-is : first ≡ firstOf (rule (m - n))) where
+module _ (n m k : ℕ) (rule : ℕ → Rule) (l : n ≤ m) (first : ℕ) (first-is : first ≡ firstFileOf (rule (m - n))) where
   pub reads-as-first : first ≡ k → true ≡ markReads n rule m k
   unfolding markReads reads
   reads-as-first e = rw (le-ltb m n l, ← first-is, eq-eqb first k e)
 
-  pub reads-as-second : (first ≡ k → ⊥) → (second : ℕ) → second ≡ secondOf (rule (m - n)) → eqb second k ≡ markReads n rule m k
+  pub reads-as-second : (first ≡ k → ⊥) → (second : ℕ) → second ≡ secondFileOf (rule (m - n)) → eqb second k ≡ markReads n rule m k
   unfolding markReads reads
   reads-as-second e second second-is = rw (le-ltb m n l, ← first-is, ne-eqb first k e, second-is)
 
@@ -84,16 +84,16 @@ module _ (g : Gate) (scope : Scope) (files : ℕ → File) (count : ℕ → ℕ)
     unfolding markIn fileMark markRead
     kind-is k l e = ap (λ x. x .kind) (read .mark-at k l e)
 
-    rule-is : g .files ≤ m → firstOf (ruleOf g m) < g .files → secondOf (ruleOf g m) < g .files → ruleMarkIn (g .values) (g .texts) (tableIn files count starts work records) (own .kinds) (ruleOf g m) ≡ ruleMark g (ruleOf g m) (files (firstOf (ruleOf g m))) (files (secondOf (ruleOf g m)))
+    rule-is : g .files ≤ m → firstFileOf (ruleOfMark g m) < g .files → secondFileOf (ruleOfMark g m) < g .files → ruleMarkIn (g .values) (g .texts) (tableIn files count starts work records) (own .kinds) (ruleOfMark g m) ≡ ruleMark g (ruleOfMark g m) (files (firstFileOf (ruleOfMark g m))) (files (secondFileOf (ruleOfMark g m)))
     unfolding ruleMarkIn ruleMark
     rule-is l a b =
-        let first = is-needed (firstOf (ruleOf g m)) (first-reads (g .files) (g .rule) m l) in
-        let second = is-needed (secondOf (ruleOf g m)) (second-reads (g .files) (g .rule) m l) in
+        let first = is-needed (firstFileOf (ruleOfMark g m)) (first-reads (g .files) (g .rule) m l) in
+        let second = is-needed (secondFileOf (ruleOfMark g m)) (second-reads (g .files) (g .rule) m l) in
         rw (kind-is _ a first, kind-is _ b second, table-is _ a first, table-is _ b second)
 
     found-is : foundMark (g .files) (g .rule) (g .values) (g .texts) (tableIn files count starts work records) own m ≡ markAt g m files
     unfolding foundMark markAt ruleMarkAt
-    found-is = same-mark (g .files) m (firstOf (ruleOf g m)) (secondOf (ruleOf g m)) _ _ _ _ own-is rule-is
+    found-is = same-mark (g .files) m (firstFileOf (ruleOfMark g m)) (secondFileOf (ruleOfMark g m)) _ _ _ _ own-is rule-is
 
 -- ---- marks put over those of the lists
 module _ (n : ℕ) (rule : ℕ → Rule) (scope : Scope) (found : ℕ → Mark) (handed : Marks) (m : ℕ) {t : Bool} (t-is : t ≡ touched n rule scope m) where

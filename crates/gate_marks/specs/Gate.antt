@@ -37,8 +37,8 @@ gateOf files rules values texts =
 unfoldable pub marksOf : Gate → ℕ
 marksOf g = g .files + g .rules
 
-abbrev pub ruleOf : Gate → ℕ → Rule
-ruleOf g m = g .rule (m - g .files)
+abbrev pub ruleOfMark : Gate → ℕ → Rule
+ruleOfMark g m = g .rule (m - g .files)
 
 -- "A rule reads only the files named in its line.", the one whose records it judges and the one that it looks into; a
 -- file's own mark reads that file. Of n files' marks and those of the rules:

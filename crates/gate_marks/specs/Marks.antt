@@ -10,9 +10,9 @@ use Rattle.table_file.specs.declared.FileRead.{FileRead}
 use Rattle.table_file.specs.File.{Expected}
 use Rattle.rule_cells.specs.Cells.{Table, table}
 use Rattle.rule_shape.specs.declared.Rule.{Rule}
-use Rattle.rule_shape.specs.Rule.{firstOf, secondOf}
+use Rattle.rule_shape.specs.Rule.{firstFileOf, secondFileOf}
 use Rattle.rules.specs.Judge.{ruleBreak, isJudged, markOf}
-use Rattle.gate_marks.specs.Gate.{Gate, marksOf, ruleOf}
+use Rattle.gate_marks.specs.Gate.{Gate, marksOf, ruleOfMark}
 use Rattle.gate_marks.specs.Work.{widthOf, readOf}
 
 -- ---- "Marks 0 to 19: the file itself"
@@ -29,17 +29,17 @@ tableOf e f = table (bytesOf f) (readOf e f .cells) (widthOf (e .form)) (readOf 
 
 unfoldable pub ruleMark : Gate → Rule → File → File → Mark
 ruleMark g r f h =
-    markOf (isJudged (readOf (g .expected (firstOf r)) f .read .kind) (readOf (g .expected (secondOf r)) h .read .kind))
-    (ruleBreak (g .values) (g .texts) r (tableOf (g .expected (firstOf r)) f) (tableOf (g .expected (secondOf r)) h))
+    markOf (isJudged (readOf (g .expected (firstFileOf r)) f .read .kind) (readOf (g .expected (secondFileOf r)) h .read .kind))
+    (ruleBreak (g .values) (g .texts) r (tableOf (g .expected (firstFileOf r)) f) (tableOf (g .expected (secondFileOf r)) h))
 
 -- a rule over a file that a set doesn't have is not judged
 unfoldable pub ruleMarkAt : Gate → Rule → (ℕ → File) → Mark
 ruleMarkAt g r files =
-    cond (ltb (firstOf r) (g .files) && ltb (secondOf r) (g .files)) (ruleMark g r (files (firstOf r)) (files (secondOf r))) notJudged
+    cond (ltb (firstFileOf r) (g .files) && ltb (secondFileOf r) (g .files)) (ruleMark g r (files (firstFileOf r)) (files (secondFileOf r))) notJudged
 
 -- ---- The mark of a number, and all marks
 unfoldable pub markAt : Gate → ℕ → (ℕ → File) → Mark
-markAt g m files = cond (ltb m (g .files)) (fileMark (g .expected m) (files m)) (ruleMarkAt g (ruleOf g m) files)
+markAt g m files = cond (ltb m (g .files)) (fileMark (g .expected m) (files m)) (ruleMarkAt g (ruleOfMark g m) files)
 
 unfoldable pub fullMarks : Gate → (ℕ → File) → Marks
 fullMarks g files = marksFrom (marksOf g) (λ m. markAt g m files)

@@ -6,18 +6,18 @@ use mathlib.Core.List.{List, [], _∷_}
 use lib.ListN.{getD}
 use Rattle.table_rows.specs.Rows.{Field, fieldsIn}
 use Rattle.table_fields.specs.Fields.{fieldsOf}
-use Rattle.table_rows.specs.Ascii.{codes}
+use Rattle.json_bytes.specs.Ascii.{codes}
 use Rattle.contract_fields.specs.Fields.{contractFieldsOf}
 use Rattle.file_names.specs.Names.{fileName, tableName, upToDot}
 use Rattle.gate_lists.specs.declared.Which.{Which}
 use Rattle.gate_lists.specs.declared.Which.the-variants.{Schedule, Baseline, Contract}
 
 -- the files of the contract side, as document 000 names its tables
-unfoldable pub contractFiles : List (List ℕ)
-contractFiles = codes "Subcontractors.json" ∷ codes "WBS.json" ∷ codes "OBS.json" ∷ codes "ControlAccounts.json" ∷ []
+unfoldable pub contractFileNames : List (List ℕ)
+contractFileNames = codes "Subcontractors.json" ∷ codes "WBS.json" ∷ codes "OBS.json" ∷ codes "ControlAccounts.json" ∷ []
 
 unfoldable pub contractFile : ℕ → List ℕ
-contractFile file = getD contractFiles file []
+contractFile file = getD contractFileNames file []
 
 unfoldable pub fileNameOf : Which → ℕ → List ℕ
 fileNameOf Schedule file = fileName file

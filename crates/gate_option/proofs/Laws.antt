@@ -5,7 +5,7 @@ use mathlib.Core.Bool.{Bool, true, false}
 use mathlib.Core.List.{List}
 use Rattle.json_same.specs.Same.{sameList}
 use Rattle.json_same.proofs.Laws.{same-equal, equal-same}
-use Rattle.table_rows.specs.Ascii.{codes}
+use Rattle.json_bytes.specs.Ascii.{codes}
 use Rattle.rule_key.proofs.Laws.{both-ways}
 use Rattle.gate_lists.specs.declared.Which.the-variants.{Baseline, Contract}
 use Rattle.gate_option.specs.declared.Named.the-variants.{Gate, Nothing}

@@ -3,7 +3,7 @@ use Prim.Native.Nat.{ℕ}
 use mathlib.Core.Bool.{cond}
 use mathlib.Core.List.{List}
 use Rattle.json_same.specs.Same.{sameList}
-use Rattle.table_rows.specs.Ascii.{codes}
+use Rattle.json_bytes.specs.Ascii.{codes}
 use Rattle.gate_lists.specs.declared.Which.the-variants.{Baseline, Contract}
 use Rattle.gate_option.specs.declared.Named.{Named}
 use Rattle.gate_option.specs.declared.Named.the-variants.{Gate, Nothing}

@@ -30,15 +30,15 @@ use Rattle.table_name.specs.declared.NameRead.the-variants.{Known, Unknown}
 use Rattle.table_record.specs.Record.{startCell, stored, Filled, typeOf, storedValue, afterColon, isRead, afterName, pairAt}
 use Rattle.grammar.specs.Grammar.{Bytes, Spaces, String, Value, Member, meant}
 use Rattle.grammar_machine.proofs.Places.{drop-byte}
-use Rattle.grammar_cells.specs.Objects.{memberOf, placeOf, isNull, startIn, endIn}
+use Rattle.grammar_cells.specs.Objects.{memberOf, placeOf, namesNull, startIn, endIn}
 use Rattle.grammar_cells.proofs.Here.{spaces-here, string-here, nullAt, ValueIs, value-is}
 
 -- ---- Places
 place-is : (s : Bytes) (i : ℕ) → i ≤ length s → placeOf s (drop i s) ≡ i
 place-is s i l = omega (arith, length-drop i s)
 
-null-is : (s : Bytes) (name : List ℕ) (start end ty : ℕ) → start ≤ length s → end ≤ length s → isNull ty s (record { name = name; from = drop start s; behind = drop end s }) ≡ nullAt s start ty end
-unfolding isNull
+null-is : (s : Bytes) (name : List ℕ) (start end ty : ℕ) → start ≤ length s → end ≤ length s → namesNull ty s (record { name = name; from = drop start s; behind = drop end s }) ≡ nullAt s start ty end
+unfolding namesNull
 null-is s name start end ty l m =
     rw (getD-drop start s 0 0, add-zero start, place-is s start l, place-is s end m)
 

@@ -18,12 +18,12 @@ use Rattle.table_rows.specs.Rows.{Field}
 use Rattle.table_name.specs.Name.{indexOf, firstIn, nextAfter}
 use Rattle.table_name.specs.declared.Next.{Next}
 use Rattle.table_name.specs.declared.Next.the-variants.{More, Ends, Neither}
-use Rattle.table_record.specs.Record.{startCell, endCell, typeOf, cleared, Filled, filled, pairAt, isMissing, closedAt, pairsFrom, membersOf as readMembers, hasRoom, recordAt}
+use Rattle.table_record.specs.Record.{startCell, endCell, typeOf, cleared, Filled, cellsFilled, pairAt, isMissing, closedAt, pairsFrom, namedMembers as readMembers, recordHasRoom, recordAt}
 use Rattle.table_record.proofs.Bounds.{pair-in}
 use Rattle.table_record.proofs.Laws.{room-all}
 use Rattle.grammar.specs.Grammar.{Bytes, Spaces, Value, Members}
 use Rattle.grammar_machine.proofs.Places.{drop-byte}
-use Rattle.grammar_cells.specs.Objects.{Named, memberOf, membersOf, objectOf, startIn, endIn, ofField, Absent, Proper}
+use Rattle.grammar_cells.specs.Objects.{Named, memberOf, namedMembers, objectOf, startIn, endIn, ofField, Absent, Proper}
 use Rattle.grammar_cells.proofs.Here.{spaces-here}
 use Rattle.grammar_cells.proofs.Pairs.{PairIs, pair-is, never}
 use Rattle.grammar_cells.proofs.Cells.{start-same, end-same, start-other, end-other, cleared-length, start-cleared, end-cleared}
@@ -86,10 +86,10 @@ of-absent fields k number other (n ∷ ns) h = rw (ofField, ne-eqb _ _ (h .0)) (
 -- ---- Members read from a place up to an end, with these cells before and those then
 pub record MembersIs (fields : List Field) (s : Bytes) (base at : ℕ) (cells : List ℕ) (end : ℕ) (then : List ℕ) : Type 0 where
   pub members : Members (drop at s) (drop end s)
-  pub starts : (k : ℕ) → startCell then base k ≡ ofField fields k (startIn s) (startCell cells base k) (membersOf members)
-  pub ends : (k : ℕ) → endCell then base k ≡ ofField fields k (endIn s (typeOf fields k)) (endCell cells base k) (membersOf members)
-  pub fresh : (k : ℕ) → 0 < startCell cells base k → Absent fields k (membersOf members)
-  pub proper : Proper fields (membersOf members)
+  pub starts : (k : ℕ) → startCell then base k ≡ ofField fields k (startIn s) (startCell cells base k) (namedMembers members)
+  pub ends : (k : ℕ) → endCell then base k ≡ ofField fields k (endIn s (typeOf fields k)) (endCell cells base k) (namedMembers members)
+  pub fresh : (k : ℕ) → 0 < startCell cells base k → Absent fields k (namedMembers members)
+  pub proper : Proper fields (namedMembers members)
 
 module _ (fields : List Field) (s : Bytes) (base at : ℕ) (cells : List ℕ) (room : base + 2 * length fields ≤ length cells) where
   -- ---- A member, and those behind it
@@ -146,7 +146,7 @@ module _ (fields : List Field) (s : Bytes) (base at : ℕ) (cells : List ℕ) (r
       all-proper h = rw (p .index) (p .known, absent, h)
 
     last-member : (last : ℕ) → Spaces (drop end s) (0x7D ∷ drop (last + 1) s) → MembersIs fields s base at cells (last + 1) then
-    unfolding membersOf ofField
+    unfolding namedMembers ofField
     last-member last h =
         record {
           members = Members.lastMember (p .member) h;
@@ -157,14 +157,14 @@ module _ (fields : List Field) (s : Bytes) (base at : ℕ) (cells : List ℕ) (r
         }
 
     more-members : (next stop : ℕ) (final : List ℕ) → NextIs s end next → MembersIs fields s base next then stop final → MembersIs fields s base at cells stop final
-    unfolding membersOf
+    unfolding namedMembers
     more-members next stop final n m =
         record {
           members = Members.moreMembers (p .member) (n .before) (n .after) (m .members);
-          starts = all-starts (membersOf (m .members)) final (m .fresh) (m .starts);
-          ends = all-ends (membersOf (m .members)) final (m .fresh) (m .ends);
-          fresh = all-fresh (membersOf (m .members)) final (m .fresh);
-          proper = all-proper (membersOf (m .members)) final (m .fresh) (m .proper);
+          starts = all-starts (namedMembers (m .members)) final (m .fresh) (m .starts);
+          ends = all-ends (namedMembers (m .members)) final (m .fresh) (m .ends);
+          fresh = all-fresh (namedMembers (m .members)) final (m .fresh);
+          proper = all-proper (namedMembers (m .members)) final (m .fresh) (m .proper);
         }
 
 -- ---- As the reader goes
@@ -179,7 +179,7 @@ module _ (fields : List Field) (s : Bytes) (base : ℕ) where
   Reading-is at cells f = (stop : ℕ) → f .outcome ≡ Whole stop → MembersIs fields s base at cells stop (f .cells)
 
   module _ (at : ℕ) (cells : List ℕ) (room : base + 2 * length fields ≤ length cells) where
-    after-pair : (n end : ℕ) (then : List ℕ) → PairIs fields s at cells base end then → ((next : ℕ) → next ≤ length s → Reading-is next then (pairsFrom n fields s next then base)) → (x : Next) → Following s end 0x7D x → Reading-is at cells (elim x [ More next ↦ pairsFrom n fields s next then base | Ends last ↦ filled then (closedAt fields then base last) | Neither place ↦ filled then (Fault 11 place) ])
+    after-pair : (n end : ℕ) (then : List ℕ) → PairIs fields s at cells base end then → ((next : ℕ) → next ≤ length s → Reading-is next then (pairsFrom n fields s next then base)) → (x : Next) → Following s end 0x7D x → Reading-is at cells (elim x [ More next ↦ pairsFrom n fields s next then base | Ends last ↦ cellsFilled then (closedAt fields then base last) | Neither place ↦ cellsFilled then (Fault 11 place) ])
     after-pair n end then p rest (More next) h = λ stop q. more-members fields s base at cells room end then p next stop _ h (rest next (h .inside) stop q)
     after-pair n end then p rest (Ends last) h = λ stop q. rw (closed-is fields then base last stop q) at (last-member fields s base at cells room end then p last (h .0))
     after-pair n end then p rest (Neither place) h = λ stop q. never q
@@ -188,10 +188,10 @@ module _ (fields : List Field) (s : Bytes) (base : ℕ) where
       | Whole end ↦
           elim (nextAfter s end 125) [
             | More next ↦ pairsFrom n fields s next then base
-            | Ends last ↦ filled then (closedAt fields then base last)
-            | Neither place ↦ filled then (Fault 11 place)
+            | Ends last ↦ cellsFilled then (closedAt fields then base last)
+            | Neither place ↦ cellsFilled then (Fault 11 place)
           ]
-      | Fault kind place ↦ filled then (Fault kind place)
+      | Fault kind place ↦ cellsFilled then (Fault kind place)
     ])
     pair-turn n then (Whole end) w p rest =
         after-pair n end then (p end refl) rest (nextAfter s end 125) (next-is s end 125 (w .1) (omega arith))
@@ -245,8 +245,8 @@ module _ (fields : List Field) (s : Bytes) (base at : ℕ) (cells : List ℕ) (b
         (record {
           object = Value.object h (m .members);
           proper = m .proper;
-          starts = λ k l. m .starts k ∙ ap (λ (d : ℕ). ofField fields k (startIn s) d (membersOf (m .members))) (start-cleared cells base (length fields) k l room);
-          ends = λ k l. m .ends k ∙ ap (λ (d : ℕ). ofField fields k (endIn s (typeOf fields k)) d (membersOf (m .members))) (end-cleared cells base (length fields) k l room);
+          starts = λ k l. m .starts k ∙ ap (λ (d : ℕ). ofField fields k (startIn s) d (namedMembers (m .members))) (start-cleared cells base (length fields) k l room);
+          ends = λ k l. m .ends k ∙ ap (λ (d : ℕ). ofField fields k (endIn s (typeOf fields k)) d (namedMembers (m .members))) (end-cleared cells base (length fields) k l room);
         })
 
     members-are : (x : Next) → First s at 0x7D x → Recorded (readMembers fields s clean base x)
@@ -259,6 +259,6 @@ module _ (fields : List Field) (s : Bytes) (base at : ℕ) (cells : List ℕ) (b
   pub record-is : Recorded (recordAt fields s at cells base)
   unfolding recordAt
   record-is =
-      by-test Recorded (hasRoom s cells base (length fields)) _ _
+      by-test Recorded (recordHasRoom s cells base (length fields)) _ _
       (λ t. members-are (room-all s cells base (length fields) t .1 .1) (firstIn s at 125) (first-is s at 125 here (omega arith)))
       (λ _ end q. never q)

@@ -23,7 +23,7 @@ use Rattle.table_name.specs.declared.Next.the-variants.{More, Ends, Neither}
 use Rattle.table_record.specs.Record.{startCell, endCell, Filled}
 use Rattle.table_record.proofs.Bounds.{record-in}
 use Rattle.table_file.specs.declared.FileRead.{FileRead}
-use Rattle.table_file.specs.Table.{fault, TableRead, tableRead, endOfFile, singleRead, singleOf, singleAt, elementAt, elementsFrom, elementsOf as readElements, arrayAt, tableOf}
+use Rattle.table_file.specs.Table.{fault, TableRead, tableRead, endOfFile, singleRead, singleOf, singleAt, elementAt, elementsFrom, namedElements as readElements, arrayAt, readTable}
 use Rattle.grammar.specs.Grammar.{Bytes, Spaces, Value, Elements, Text}
 use Rattle.grammar_machine.proofs.Machine.{spaces, value, inArray, afterElement, aText}
 use Rattle.grammar_machine.proofs.Places.{drop-byte, At}
@@ -32,7 +32,7 @@ use Rattle.grammar_machine.proofs.Facts.{told-kind}
 use Rattle.grammar_files.proofs.Records.{NextAnswered, record-at}
 use Rattle.grammar_files.proofs.Values.{not-object-at}
 use Rattle.grammar_files.proofs.Files.{After, element-at, element-next, array-first, value-first}
-use Rattle.grammar_cells.specs.Objects.{Named, objectOf, elementsOf, arrayOf, recordsOf, RowIs, FileIs}
+use Rattle.grammar_cells.specs.Objects.{Named, objectOf, namedElements, namedArray, namedRecords, RowIs, FileIs}
 use Rattle.grammar_cells.proofs.Here.{spaces-here}
 use Rattle.grammar_cells.proofs.Pairs.{never}
 use Rattle.grammar_cells.proofs.Unique.{records-one}
@@ -88,8 +88,8 @@ module _ (fields : List Field) (s : Bytes) where
     pub close : ℕ
     pub elements : Elements (drop at s) (drop close s)
     pub tail : Spaces (drop close s) []
-    pub count : t .read .records ≡ r + length (elementsOf elements)
-    pub rows : (i : ℕ) → i < length (elementsOf elements) → RowIs fields s (t .cells) (r + i) (getD (elementsOf elements) i [])
+    pub count : t .read .records ≡ r + length (namedElements elements)
+    pub rows : (i : ℕ) → i < length (namedElements elements) → RowIs fields s (t .cells) (r + i) (getD (namedElements elements) i [])
     pub kept : (j : ℕ) → j < r * (2 * length fields) → getD (t .cells) j 0 ≡ getD cells j 0
 
   -- the cells of a record stay where those behind it are read
@@ -104,7 +104,7 @@ module _ (fields : List Field) (s : Bytes) where
 
   module _ (at r : ℕ) (cells : List ℕ) (end : ℕ) (then : List ℕ) (e : ElementIs at r cells end then) where
     last-element : (last : ℕ) → Spaces (drop end s) (0x5D ∷ drop (last + 1) s) → (m : FileRead) → Spaces (drop (last + 1) s) [] × (m .records ≡ r + 1) → ElementsIs at r cells (tableRead then m)
-    unfolding elementsOf
+    unfolding namedElements
     last-element last h m f =
         record {
           close = last + 1;
@@ -120,7 +120,7 @@ module _ (fields : List Field) (s : Bytes) where
         only (suc i) l = absurd (omega arith)
 
     more-elements : (next : ℕ) (t : TableRead) → NextIs s end next → ElementsIs next (r + 1) then t → ElementsIs at r cells t
-    unfolding elementsOf
+    unfolding namedElements
     more-elements next t n m =
         record {
           close = m .close;
@@ -131,7 +131,7 @@ module _ (fields : List Field) (s : Bytes) where
           kept = λ j l. m .kept j (omega arith) ∙ e .kept j l;
         }
       where
-        all : (i : ℕ) → i < suc (length (elementsOf (m .elements))) → RowIs fields s (t .cells) (r + i) (getD (objectOf (e .object) ∷ elementsOf (m .elements)) i [])
+        all : (i : ℕ) → i < suc (length (namedElements (m .elements))) → RowIs fields s (t .cells) (r + i) (getD (objectOf (e .object) ∷ namedElements (m .elements)) i [])
         all zero l = rw (add-zero r) (row-kept r then (t .cells) (objectOf (e .object)) (m .kept) (e .row))
         all (suc i) l =
             let same : r + 1 + i ≡ r + suc i = omega arith in
@@ -202,7 +202,7 @@ module _ (fields : List Field) (s : Bytes) where
   one-row then end o (suc r) l = absurd (omega arith)
 
   object-is : (then : List ℕ) (r : Reading) → Answered aText 0 s (spaces ∷ []) r → ((end : ℕ) → r ≡ Whole end → ObjectIs fields s 0 (drop at s) end then) → Filed true (tableRead then (singleRead s r))
-  unfolding singleRead recordsOf
+  unfolding singleRead namedRecords
   object-is then (Whole end) a o = λ q.
       let h = end-is fields s end 1 (a .inside) q in (
         Text.text before (o end refl .object) (h .0),
@@ -223,13 +223,13 @@ module _ (fields : List Field) (s : Bytes) where
     opened = rw (drop-byte s at 0x5B bracket (inside s at 0x5B bracket (omega arith))) at before
 
     no-elements : (cells : List ℕ) (last : ℕ) → Spaces (drop (at + 1) s) (0x5D ∷ drop (last + 1) s) → last < length s → Filed false (tableRead cells (endOfFile s (last + 1) 0))
-    unfolding recordsOf arrayOf
+    unfolding namedRecords namedArray
     no-elements cells last h l = λ q.
         let e = end-is fields s (last + 1) 0 (omega arith) q in
         (Text.text opened (Value.noElements h) (e .0), record { count = e .1; rows = λ r m. absurd (omega (arith, e .1)) })
 
     some-elements : (next : ℕ) (cells : List ℕ) (t : TableRead) → Spaces (drop (at + 1) s) (drop next s) → ElementsIs fields s next 0 cells t → (text : Text s) × FileIs false fields s text t
-    unfolding recordsOf arrayOf
+    unfolding namedRecords namedArray
     some-elements next cells t h m = (
       Text.text opened (Value.array h (m .elements)) (m .tail),
       record { count = m .count ∙ zero-add _; rows = λ r l. rw (zero-add r) at (m .rows r (omega (arith, m .count))) },
@@ -250,17 +250,17 @@ module _ (fields : List Field) (s : Bytes) where
       elements-is q cells (firstIn s at 93) (first-is s at 93 (inside s at 0x5B q (omega arith)) (omega arith)) (array-first s fields at q first))
       (λ _. other-is false cells (notObjectAt s at) (not-object-at aText 0 s (spaces ∷ []) at first) (no-object fields s at))
 
-  held : (single : Bool) (cells : List ℕ) → Filed single (tableOf single fields s cells)
-  unfolding tableOf
+  held : (single : Bool) (cells : List ℕ) → Filed single (readTable single fields s cells)
+  unfolding readTable
   held true cells = single-is cells
   held false cells = array-is cells
 
   -- the records of a file that holds are the objects of its text, in order, and its cells those of their members
-  pub file-is : (single : Bool) (cells : List ℕ) → tableOf single fields s cells .read .kind ≡ 0 → (text : Text s) → FileIs single fields s text (tableOf single fields s cells)
+  pub file-is : (single : Bool) (cells : List ℕ) → readTable single fields s cells .read .kind ≡ 0 → (text : Text s) → FileIs single fields s text (readTable single fields s cells)
   file-is single cells q text =
       let h = held single cells q in
-      let same : recordsOf single (h .0) ≡ recordsOf single text = records-one single (h .0) text in
+      let same : namedRecords single (h .0) ≡ namedRecords single text = records-one single (h .0) text in
       record {
         count = h .1 .count ∙ ap length same;
-        rows = λ r l. subst (λ (rows : List (List Named)). RowIs fields s (tableOf single fields s cells .cells) r (getD rows r [])) same (h .1 .rows r l);
+        rows = λ r l. subst (λ (rows : List (List Named)). RowIs fields s (readTable single fields s cells .cells) r (getD rows r [])) same (h .1 .rows r l);
       }

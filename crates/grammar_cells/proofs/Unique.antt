@@ -12,7 +12,7 @@ use Rattle.grammar_machine.proofs.Machine.{spaces, rowOf, settle, ends, verdict
 use Rattle.grammar_machine.proofs.Run.{Passes, pass}
 use Rattle.grammar_machine.proofs.Complete.{spaces-run, string-run, Solid, value-solid, members-solid, elements-solid, Quiet, spaces-quiet, quiet-comma, quiet-bracket, quiet-brace, value-run}
 use Rattle.grammar_chars.proofs.Meaning.{string-means}
-use Rattle.grammar_cells.specs.Objects.{Named, memberOf, membersOf, objectOf, elementsOf, arrayOf, recordsOf}
+use Rattle.grammar_cells.specs.Objects.{Named, memberOf, namedMembers, objectOf, namedElements, namedArray, namedRecords}
 
 -- what is left is told by the machine with nothing on its stack
 same-rest : (r q : Bytes) → verdict [] r ≡ verdict [] q → r ≡ q
@@ -56,8 +56,8 @@ member-one (Member.named h i j v) (Member.named h' i' j' v') e p o =
 both : {n n' : Named} {ns ns' : List Named} → n ≡ n' → ns ≡ ns' → n ∷ ns ≡ n' ∷ ns'
 both e f = cc
 
-members-one : {l m r q : Bytes} (a : Members l r) (b : Members m q) → l ≡ m → membersOf a ≡ membersOf b
-unfolding membersOf rowOf
+members-one : {l m r q : Bytes} (a : Members l r) (b : Members m q) → l ≡ m → namedMembers a ≡ namedMembers b
+unfolding namedMembers rowOf
 members-one (Members.lastMember a h) (Members.lastMember b i) e =
     both (member-one a b e (spaces-quiet h quiet-brace) (spaces-quiet i quiet-brace) .0) refl
 members-one (Members.lastMember a h) (Members.moreMembers b i j bs) e =
@@ -119,7 +119,7 @@ module _ (opening closing : ℕ) (A : Type 0) (X : Bytes → Bytes → Type 0) (
   view-one (other n) (other o) e = refl
 
 -- ---- Objects
-object-view : {l r : Bytes} (v : Value l r) → View 0x7B 0x7D Named Members (λ l r ms. membersOf ms) l r (objectOf v)
+object-view : {l r : Bytes} (v : Value l r) → View 0x7B 0x7D Named Members (λ l r ms. namedMembers ms) l r (objectOf v)
 unfolding objectOf
 object-view (Value.literal h) = other (literal-plain h .0)
 object-view (Value.number h) = other (number-plain h .0)
@@ -135,15 +135,15 @@ solid-brace (Solid.solid b e n m) = (e, m)
 objects-one : {l m r q : Bytes} (v : Value l r) (w : Value m q) → l ≡ m → objectOf v ≡ objectOf w
 unfolding rowOf
 objects-one v w e =
-    view-one 0x7B 0x7D Named Members (λ l r ms. membersOf ms) (λ r. refl) (λ l r ms. solid-brace (members-solid ms))
+    view-one 0x7B 0x7D Named Members (λ l r ms. namedMembers ms) (λ r. refl) (λ l r ms. solid-brace (members-solid ms))
     (λ l m r q x y. members-one x y) (object-view v) (object-view w) e
 
 -- ---- Arrays of them
 each : {n n' : List Named} {ns ns' : List (List Named)} → n ≡ n' → ns ≡ ns' → n ∷ ns ≡ n' ∷ ns'
 each e f = cc
 
-elements-one : {l m r q : Bytes} (a : Elements l r) (b : Elements m q) → l ≡ m → elementsOf a ≡ elementsOf b
-unfolding elementsOf rowOf
+elements-one : {l m r q : Bytes} (a : Elements l r) (b : Elements m q) → l ≡ m → namedElements a ≡ namedElements b
+unfolding namedElements rowOf
 elements-one (Elements.lastElement v h) (Elements.lastElement w i) e = each (objects-one v w e) refl
 elements-one (Elements.lastElement v h) (Elements.moreElements w i j ws) e =
     let x = spaces-one h i (value-one v w e (spaces-quiet h quiet-bracket) (spaces-quiet i quiet-comma)) refl refl in
@@ -155,8 +155,8 @@ elements-one (Elements.moreElements v h j vs) (Elements.moreElements w i k ws) e
     let x = rest-of (spaces-one h i (value-one v w e (spaces-quiet h quiet-comma) (spaces-quiet i quiet-comma)) refl refl) in
     each (objects-one v w e) (elements-one vs ws (spaces-one j k x (solid-passes (elements-solid vs)) (solid-passes (elements-solid ws))))
 
-array-view : {l r : Bytes} (v : Value l r) → View 0x5B 0x5D (List Named) Elements (λ l r vs. elementsOf vs) l r (arrayOf v)
-unfolding arrayOf
+array-view : {l r : Bytes} (v : Value l r) → View 0x5B 0x5D (List Named) Elements (λ l r vs. namedElements vs) l r (namedArray v)
+unfolding namedArray
 array-view (Value.literal h) = other (literal-plain h .1)
 array-view (Value.number h) = other (number-plain h .1)
 array-view (Value.string h) = other (string-plain h .1)
@@ -168,15 +168,15 @@ array-view (Value.array s vs) = some refl s vs
 solid-bracket : {l : Bytes} → Solid l → Passes spaces l × (first l ≡ 0x5D → ⊥)
 solid-bracket (Solid.solid b e n m) = (e, n)
 
-arrays-one : {l m r q : Bytes} (v : Value l r) (w : Value m q) → l ≡ m → arrayOf v ≡ arrayOf w
+arrays-one : {l m r q : Bytes} (v : Value l r) (w : Value m q) → l ≡ m → namedArray v ≡ namedArray w
 unfolding rowOf
 arrays-one v w e =
-    view-one 0x5B 0x5D (List Named) Elements (λ l r vs. elementsOf vs) (λ r. refl) (λ l r vs. solid-bracket (elements-solid vs))
+    view-one 0x5B 0x5D (List Named) Elements (λ l r vs. namedElements vs) (λ r. refl) (λ l r vs. solid-bracket (elements-solid vs))
     (λ l m r q x y. elements-one x y) (array-view v) (array-view w) e
 
 -- ---- Texts
-pub records-one : (single : Bool) {l : Bytes} (t u : Text l) → recordsOf single t ≡ recordsOf single u
-unfolding recordsOf
+pub records-one : (single : Bool) {l : Bytes} (t u : Text l) → namedRecords single t ≡ namedRecords single u
+unfolding namedRecords
 records-one true (Text.text h v i) (Text.text j w k) =
     each (objects-one v w (spaces-one h j refl (solid-passes (value-solid v)) (solid-passes (value-solid w)))) refl
 records-one false (Text.text h v i) (Text.text j w k) =

@@ -22,9 +22,9 @@ pub record Named : Type 0 where
 unfoldable pub memberOf : {l r : Bytes} → Member l r → Named
 memberOf (Member.named {o = from} {r = behind} {cs = cs} s i j v) = record { name = meant cs; from = from; behind = behind }
 
-unfoldable pub membersOf : {l r : Bytes} → Members l r → List Named
-membersOf (Members.lastMember m s) = memberOf m ∷ []
-membersOf (Members.moreMembers m s t ms) = memberOf m ∷ membersOf ms
+unfoldable pub namedMembers : {l r : Bytes} → Members l r → List Named
+namedMembers (Members.lastMember m s) = memberOf m ∷ []
+namedMembers (Members.moreMembers m s t ms) = memberOf m ∷ namedMembers ms
 
 -- the members of an object, in order; of any other value none
 unfoldable pub objectOf : {l r : Bytes} → Value l r → List Named
@@ -32,42 +32,42 @@ objectOf (Value.literal h) = []
 objectOf (Value.number h) = []
 objectOf (Value.string h) = []
 objectOf (Value.noMembers s) = []
-objectOf (Value.object s ms) = membersOf ms
+objectOf (Value.object s ms) = namedMembers ms
 objectOf (Value.noElements s) = []
 objectOf (Value.array s vs) = []
 
-unfoldable pub elementsOf : {l r : Bytes} → Elements l r → List (List Named)
-elementsOf (Elements.lastElement v s) = objectOf v ∷ []
-elementsOf (Elements.moreElements v s t vs) = objectOf v ∷ elementsOf vs
+unfoldable pub namedElements : {l r : Bytes} → Elements l r → List (List Named)
+namedElements (Elements.lastElement v s) = objectOf v ∷ []
+namedElements (Elements.moreElements v s t vs) = objectOf v ∷ namedElements vs
 
 -- the elements of an array, in order; of any other value none
-unfoldable pub arrayOf : {l r : Bytes} → Value l r → List (List Named)
-arrayOf (Value.literal h) = []
-arrayOf (Value.number h) = []
-arrayOf (Value.string h) = []
-arrayOf (Value.noMembers s) = []
-arrayOf (Value.object s ms) = []
-arrayOf (Value.noElements s) = []
-arrayOf (Value.array s vs) = elementsOf vs
+unfoldable pub namedArray : {l r : Bytes} → Value l r → List (List Named)
+namedArray (Value.literal h) = []
+namedArray (Value.number h) = []
+namedArray (Value.string h) = []
+namedArray (Value.noMembers s) = []
+namedArray (Value.object s ms) = []
+namedArray (Value.noElements s) = []
+namedArray (Value.array s vs) = namedElements vs
 
 -- the records of a file: the object that a singleton is, the elements of a table
-unfoldable pub recordsOf : Bool → {l : Bytes} → Text l → List (List Named)
-recordsOf single (Text.text s v t) = cond single (objectOf v ∷ []) (arrayOf v)
+unfoldable pub namedRecords : Bool → {l : Bytes} → Text l → List (List Named)
+namedRecords single (Text.text s v t) = cond single (objectOf v ∷ []) (namedArray v)
 
 -- ---- The cells
 abbrev pub placeOf : Bytes → Bytes → ℕ
 placeOf s l = length s - length l
 
 -- null, and the empty string, two quotes alone, in the types 4 to 6: String, StringID and Text
-unfoldable pub isNull : ℕ → Bytes → Named → Bool
-isNull ty s n = eqb (getD (n .from) 0 0) 0x6E || (within 4 6 ty && eqb (placeOf s (n .behind)) (placeOf s (n .from) + 2))
+unfoldable pub namesNull : ℕ → Bytes → Named → Bool
+namesNull ty s n = eqb (getD (n .from) 0 0) 0x6E || (within 4 6 ty && eqb (placeOf s (n .behind)) (placeOf s (n .from) + 2))
 
 -- what the cells of a field say of the member that names it: where its value begins, and where it ends, 0 for a null
 unfoldable pub startIn : Bytes → Named → ℕ
 startIn s n = placeOf s (n .from)
 
 unfoldable pub endIn : Bytes → ℕ → Named → ℕ
-endIn s ty n = cond (isNull ty s n) 0 (placeOf s (n .behind))
+endIn s ty n = cond (namesNull ty s n) 0 (placeOf s (n .behind))
 
 -- this number of the first member that names field k; another where none does
 unfoldable pub ofField : List Field → ℕ → (Named → ℕ) → ℕ → List Named → ℕ
@@ -94,5 +94,5 @@ pub record RowIs (fields : List Field) (s : Bytes) (cells : List ℕ) (r : ℕ) 
 
 -- as many records as the text has objects, and the cells of each are those of the object in its place
 pub record FileIs (single : Bool) (fields : List Field) (s : Bytes) (text : Text s) (t : TableRead) : Type 0 where
-  pub count : t .read .records ≡ length (recordsOf single text)
-  pub rows : (r : ℕ) → r < t .read .records → RowIs fields s (t .cells) r (getD (recordsOf single text) r [])
+  pub count : t .read .records ≡ length (namedRecords single text)
+  pub rows : (r : ℕ) → r < t .read .records → RowIs fields s (t .cells) r (getD (namedRecords single text) r [])

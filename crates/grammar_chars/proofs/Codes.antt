@@ -13,7 +13,7 @@ use lib.ListN.{getD, drop}
 use lib.Seq.{getD-drop, drop-drop}
 use Rattle.json_bytes.specs.Reads.{byteAt, within}
 use Rattle.json_bytes.proofs.Laws.{within-from, within-to, both-left, both-right}
-use Rattle.json_chars.specs.Step.{second, isTwo, isThree, isFour, sequenceOf, sequenceAt, letterEscape, hexDigit, digitAt, unitAt, unitOf, escapedAt, joined, escapeAt, stepAt}
+use Rattle.json_chars.specs.Step.{second, isTwo, isThree, isFour, sequenceOf, sequenceAt, letterEscape, hexDigit, digitAt, unitAt, unitOf, escapedAt, surrogatesJoined, escapeAt, stepAt}
 use Rattle.json_chars.specs.declared.Step.the-variants.{Char}
 use Rattle.json_chars.specs.declared.Unit16.the-variants.{Hex}
 use Rattle.grammar.specs.Grammar
@@ -130,7 +130,7 @@ plain-second a b m n o p h = plain-range a b m n o p ∙ in-range 0x80 0xBF b h
 -- its code is no surrogate, or it is an escape of four digits
 pub data Steps (s : Bytes) (i c : ℕ) (r : Bytes) : Type 0 where
   alone : (next : ℕ) → drop next s ≡ r → stepAt s i ≡ Char c next → (From 0xD800 0xDFFF c → ⊥) → escapedAt s i ≡ 0 → Steps s i c r
-  unit : byteAt s i ≡ 92 → drop (i + 6) s ≡ r → stepAt s i ≡ joined s i (Hex c) → escapedAt s i ≡ c → Steps s i c r
+  unit : byteAt s i ≡ 92 → drop (i + 6) s ≡ r → stepAt s i ≡ surrogatesJoined s i (Hex c) → escapedAt s i ≡ c → Steps s i c r
 
 pub not-escaped : (s : Bytes) (i : ℕ) → byteAt s i ≢ 92 → escapedAt s i ≡ 0
 unfolding escapedAt

@@ -9,7 +9,7 @@ use borrow.Author.Tests.{eq-eqb}
 use lib.ListN.{length, drop}
 use Rattle.json_bytes.specs.Reads.{byteAt, within}
 use Rattle.json_bytes.proofs.Laws.{inside}
-use Rattle.json_chars.specs.Step.{isPair, escapedAt, joined, stepAt}
+use Rattle.json_chars.specs.Step.{isPair, escapedAt, surrogatesJoined, stepAt}
 use Rattle.json_chars.specs.Chars.{charsFrom, charsAt}
 use Rattle.json_chars.specs.declared.Step.the-variants.{Char, Close}
 use Rattle.json_chars.specs.declared.Unit16.the-variants.{Hex}
@@ -64,13 +64,13 @@ module _ (s : Bytes) where
   at-quote {i} e = record { end = i + 1; walk = closes {i = i} (rw (first-of s i e)); left = left-of s i e 1 }
 
   -- an escape of four digits is one character, or half of one
-  module _ (i c : ℕ) (e : stepAt s i ≡ joined s i (Hex c)) where
+  module _ (i c : ℕ) (e : stepAt s i ≡ surrogatesJoined s i (Hex c)) where
     unpaired : isPair c (escapedAt s (i + 6)) ≡ false → stepAt s i ≡ Char c (i + 6)
-    unfolding joined
+    unfolding surrogatesJoined
     unpaired n = e ∙ rw n
 
     paired : (low : ℕ) → escapedAt s (i + 6) ≡ low → isPair c low ≡ true → stepAt s i ≡ Char (0x10000 + (c - 0xD800) * 0x400 + (low - 0xDC00)) (i + 12)
-    unfolding joined
+    unfolding surrogatesJoined
     paired low l y = e ∙ rw (l, y)
 
   -- a character before the closing quote

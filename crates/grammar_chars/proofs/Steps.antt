@@ -11,7 +11,7 @@ use borrow.Author.Tests.{eqb-true, eqb-false, ltb-true, ltb-false, lt-ltb, le-lt
 use lib.Dec.{ltb, eqb}
 use Rattle.json_bytes.specs.Reads.{byteAt, within}
 use Rattle.json_bytes.proofs.Laws.{by-test, within-from, within-to}
-use Rattle.json_chars.specs.Step.{second, isTwo, isThree, isFour, sequenceOf, sequenceAt, letterEscape, hexDigit, digitAt, unitAt, unitOf, escapedAt, isPair, joined, escapeAt, stepAt}
+use Rattle.json_chars.specs.Step.{second, isTwo, isThree, isFour, sequenceOf, sequenceAt, letterEscape, hexDigit, digitAt, unitAt, unitOf, escapedAt, isPair, surrogatesJoined, escapeAt, stepAt}
 use Rattle.json_chars.specs.declared.Step.{Step}
 use Rattle.json_chars.specs.declared.Step.the-variants.{Char, Close, Bad}
 use Rattle.json_chars.specs.declared.Unit16.{Unit16}
@@ -176,8 +176,8 @@ module _ (K₀ : Stack) (start : ℕ) (s : Bytes) where
         behind (Hex u) b h = onto (omega arith) b
         behind (NoHex place) b h = absurd (omega arith)
 
-    joined-at : (i : ℕ) (u : Unit16) → UnitRead K₀ start s (characters ∷ K) (i + 2) u → Stepped K₀ start s K i (joined s i u)
-    unfolding joined
+    joined-at : (i : ℕ) (u : Unit16) → UnitRead K₀ start s (characters ∷ K) (i + 2) u → Stepped K₀ start s K i (surrogatesJoined s i u)
+    unfolding surrogatesJoined
     joined-at i (NoHex place) p = (stopped p, omega arith)
     joined-at i (Hex u) a =
         let b : At K₀ start s (characters ∷ K) (i + 6) = onto (omega arith) a in

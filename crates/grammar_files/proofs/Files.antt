@@ -21,7 +21,7 @@ use Rattle.table_name.specs.declared.Next.the-variants.{More, Ends, Neither}
 use Rattle.table_record.specs.Record.{Filled}
 use Rattle.table_record.proofs.Bounds.{NextIn, next-in, first-in}
 use Rattle.table_file.specs.declared.FileRead.{FileRead}
-use Rattle.table_file.specs.Table.{TableRead, tableRead, fault, endOfFile, singleRead, singleOf, singleAt, elementAt, elementsFrom, elementsOf, arrayAt, tableOf}
+use Rattle.table_file.specs.Table.{TableRead, tableRead, fault, endOfFile, singleRead, singleOf, singleAt, elementAt, elementsFrom, elementsOf, arrayAt, readTable}
 use Rattle.table_file.proofs.Laws.{element-in}
 use Rattle.grammar.specs.Grammar.{Bytes}
 use Rattle.grammar_machine.proofs.Machine.{spaces, value, inArray, afterElement, Stack, anElement, aText, rowOf}
@@ -132,8 +132,8 @@ module _ (s : Bytes) where
     pub value-first : At aText 0 s (value ∷ spaces ∷ []) (spacesEnd s 0)
     value-first = spaces-at (value ∷ spaces ∷ []) (at-start aText 0 s (omega arith))
 
-    pub table-marked : (single : Bool) (cells : List ℕ) → Marked s (tableOf single fields s cells .read)
-    unfolding tableOf
+    pub table-marked : (single : Bool) (cells : List ℕ) → Marked s (readTable single fields s cells .read)
+    unfolding readTable
     table-marked single cells =
         by-test (λ (t : TableRead). Marked s (t .read)) single _ _
         (λ _. single-at cells (spacesEnd s 0) value-first)

@@ -11,7 +11,7 @@ use lib.ListN.{length, take}
 use lib.Seq.{take-length}
 use Rattle.table_rows.specs.Rows.{Field}
 use Rattle.table_file.specs.declared.FileRead.{FileRead}
-use Rattle.table_file.specs.Table.{tableOf}
+use Rattle.table_file.specs.Table.{readTable}
 use Rattle.grammar.specs.Grammar.{Bytes, Text, Begins}
 use Rattle.grammar.specs.Claims.{StopsAt, BrokenAt}
 use Rattle.grammar_machine.proofs.Machine.{aText}
@@ -22,7 +22,7 @@ use Rattle.grammar_files.proofs.Files.{table-marked}
 
 module _ (single : Bool) (fields : List Field) (s : Bytes) (cells : List ℕ) where
   abbrev mark : FileRead
-  mark = tableOf single fields s cells .read
+  mark = readTable single fields s cells .read
 
   told : (mark .kind ≡ 0 → ⊥) → Told aText 0 s (mark .kind) (mark .place)
   told n = ⊎-elim (λ h. absurd (n (h .0))) (λ t. t) (table-marked s fields single cells)

@@ -25,7 +25,7 @@ use Rattle.table_name.specs.declared.NameRead.{NameRead}
 use Rattle.table_name.specs.declared.NameRead.the-variants.{Known, Unknown}
 use Rattle.table_name.specs.declared.Next.{Next}
 use Rattle.table_name.specs.declared.Next.the-variants.{More, Ends, Neither}
-use Rattle.table_record.specs.Record.{Filled, filled, typeOf, isRead, storedValue, afterColon, afterName, pairAt, isMissing, closedAt, cleared, hasRoom, pairsFrom, membersOf, recordAt}
+use Rattle.table_record.specs.Record.{Filled, cellsFilled, typeOf, isRead, storedValue, afterColon, afterName, pairAt, isMissing, closedAt, cleared, recordHasRoom, pairsFrom, membersOf, recordAt}
 use Rattle.table_record.proofs.Bounds.{NextIn, next-in, first-in, pair-in}
 use Rattle.grammar.specs.Grammar.{Bytes}
 use Rattle.grammar_machine.proofs.Machine.{Symbol, just, spaces, characters, value, inObject, afterMember, inArray, Stack, memberRest, aMember, anElement, Push, Stuck, rowOf, expand}
@@ -143,7 +143,7 @@ module _ (K₀ : Stack) (start : ℕ) (s : Bytes) where
         (λ _. a .1)
 
     -- ---- The names and values one behind the other
-    after-pair : (n : ℕ) (cells : List ℕ) (end : ℕ) → ((next : ℕ) → end < next → At K₀ start s (aMember ++ K) next → Answered K₀ start s K (pairsFrom n fields s next cells base .outcome)) → (x : Next) → NextIn s end x → NextAnswered afterMember (aMember ++ K) K x → Answered K₀ start s K (elim x as (λ _. Filled) [ More next ↦ pairsFrom n fields s next cells base | Ends last ↦ filled cells (closedAt fields cells base last) | Neither place ↦ filled cells (Fault 11 place) ] .outcome)
+    after-pair : (n : ℕ) (cells : List ℕ) (end : ℕ) → ((next : ℕ) → end < next → At K₀ start s (aMember ++ K) next → Answered K₀ start s K (pairsFrom n fields s next cells base .outcome)) → (x : Next) → NextIn s end x → NextAnswered afterMember (aMember ++ K) K x → Answered K₀ start s K (elim x as (λ _. Filled) [ More next ↦ pairsFrom n fields s next cells base | Ends last ↦ cellsFilled cells (closedAt fields cells base last) | Neither place ↦ cellsFilled cells (Fault 11 place) ] .outcome)
     after-pair n cells end rest (More next) h a = rest next (h .0) a
     after-pair n cells end rest (Ends last) h a = closed-at afterMember cells last a
     after-pair n cells end rest (Neither place) h a = a
@@ -157,10 +157,10 @@ module _ (K₀ : Stack) (start : ℕ) (s : Bytes) where
       | Whole end ↦
           elim (nextAfter s end 125) [
             | More next ↦ pairsFrom n fields s next cells base
-            | Ends last ↦ filled cells (closedAt fields cells base last)
-            | Neither place ↦ filled cells (Fault 11 place)
+            | Ends last ↦ cellsFilled cells (closedAt fields cells base last)
+            | Neither place ↦ cellsFilled cells (Fault 11 place)
           ]
-      | Fault kind place ↦ filled cells (Fault kind place)
+      | Fault kind place ↦ cellsFilled cells (Fault kind place)
     ] .outcome)
     pair-turn n cells at rest (Whole end) h a =
         after-pair n cells end (λ next l b. rest next (omega (arith, h .0)) b) (nextAfter s end 125) (next-in s end (h .1) 125 (omega arith)) (member-next end a)
@@ -189,6 +189,6 @@ module _ (K₀ : Stack) (start : ℕ) (s : Bytes) where
     pub record-at : (cells : List ℕ) (at : ℕ) → byteAt s at ≡ 0x7B → At K₀ start s (value ∷ K) at → Answered K₀ start s K (recordAt fields s at cells base .outcome)
     unfolding recordAt
     record-at cells at e a =
-        by-test (λ (f : Filled). Answered K₀ start s K (f .outcome)) (hasRoom s cells base (length fields)) _ _
+        by-test (λ (f : Filled). Answered K₀ start s K (f .outcome)) (recordHasRoom s cells base (length fields)) _ _
         (λ _. members-of (cleared cells base (2 * length fields)) at (firstIn s at 125) (first-in s at 125 (omega arith)) (opened at e a))
         (λ _. judged (value ∷ K) (omega arith) a)

@@ -20,7 +20,7 @@ use Rattle.json_chars.specs.Chars.{charsAt}
 use Rattle.json_chars.specs.declared.Step.{Step}
 use Rattle.json_chars.specs.declared.Step.the-variants.{Char, Close, Bad}
 use Rattle.json_chars.proofs.Bounds.{Good, step-good}
-use Rattle.json_text.specs.Text.{textFrom, textAt, ruleOf, none, wrongHere, firstOf, closesAt, wrongFrom, wrongAt}
+use Rattle.json_text.specs.Text.{textFrom, textAt, ruleBroken, none, wrongHere, firstWrong, closesAt, wrongFrom, wrongAt}
 use Rattle.json_text.specs.declared.TextType.{TextType}
 use Rattle.json_text.specs.declared.Wrong.{Wrong}
 use Rattle.grammar.specs.Grammar.{Bytes, Characters, String, meant}
@@ -77,12 +77,12 @@ module _ (K₀ : Stack) (start : ℕ) (s : Bytes) (K : Stack) where
   unfolding wrongHere
   rule-here rule i a = by-test WrongHere (ltb 0 rule) _ _ (λ _ h. a) (λ _. none-here)
 
-  first-here : (w v : Wrong) → WrongHere w → WrongHere v → WrongHere (firstOf w v)
-  unfolding firstOf
+  first-here : (w v : Wrong) → WrongHere w → WrongHere v → WrongHere (firstWrong w v)
+  unfolding firstWrong
   first-here w v p q = by-test WrongHere (ltb 0 (w .rule)) _ _ (λ _. p) (λ _. q)
 
   wrong-step : (f : ℕ) (ty : TextType) (i : ℕ) (edge : Bool) → At K₀ start s (characters ∷ K) i → ((next : ℕ) (after : Bool) → At K₀ start s (characters ∷ K) next → WrongHere (wrongFrom f ty s next after)) → (t : Step) → Stepped K₀ start s K i t → WrongHere (elim t [
-    | Char code next ↦ firstOf (wrongHere (ruleOf ty code (edge || closesAt s next)) i) (wrongFrom f ty s next (eqb code 32))
+    | Char code next ↦ firstWrong (wrongHere (ruleBroken ty code (edge || closesAt s next)) i) (wrongFrom f ty s next (eqb code 32))
     | Close ↦ none
     | Bad kind place ↦ none
   ])

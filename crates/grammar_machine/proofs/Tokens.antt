@@ -11,7 +11,8 @@ use borrow.Author.Tests.{eqb-true, eqb-false, eq-eqb}
 use lib.Dec.{eqb}
 use lib.ListN.{length, drop, List·getD-eq-default}
 use lib.Seq.{slice}
-use Rattle.json_bytes.specs.Reads.{byteAt, leading, isSpace, spacesEnd, wordAt, literalAt}
+use Rattle.json_bytes.specs.Ascii.{codes}
+use Rattle.json_bytes.specs.Reads.{byteAt, leading, isSpace, spacesEnd, spelledAt, literalAt}
 use Rattle.json_bytes.specs.declared.Reading.{Reading}
 use Rattle.json_bytes.specs.declared.Reading.the-variants.{Whole, Fault}
 use Rattle.json_bytes.proofs.Laws.{by-test, run-more, run-stops, run-ends}
@@ -121,25 +122,25 @@ Letters [] = Unit {0}
 Letters (w ∷ ws) = (0 < w) × Letters ws
 
 module _ {K₀ : Stack} {start : ℕ} {s : Bytes} (K : Stack) where
-  word-at : (ws : List ℕ) → Letters ws → (i : ℕ) → At K₀ start s (map just ws ++ K) i → Answers K₀ start s K (wordAt s i ws)
-  unfolding wordAt
+  word-at : (ws : List ℕ) → Letters ws → (i : ℕ) → At K₀ start s (map just ws ++ K) i → Answers K₀ start s K (spelledAt s i ws)
+  unfolding spelledAt
   word-at [] h i a = a
   word-at (w ∷ ws) h i a = go (word-at ws (h .1) (i + 1)) (eqb (byteAt s i) w) refl
     where
-      go : (At K₀ start s (map just ws ++ K) (i + 1) → Answers K₀ start s K (wordAt s (i + 1) ws)) → (t : Bool) → eqb (byteAt s i) w ≡ t → Answers K₀ start s K (elim t [ true ↦ wordAt s (i + 1) ws | false ↦ Fault 11 i ])
+      go : (At K₀ start s (map just ws ++ K) (i + 1) → Answers K₀ start s K (spelledAt s (i + 1) ws)) → (t : Bool) → eqb (byteAt s i) w ≡ t → Answers K₀ start s K (elim t [ true ↦ spelledAt s (i + 1) ws | false ↦ Fault 11 i ])
       go rest true e =
           rest (push-at (just w) (map just ws ++ K) [] w (eqb-true (byteAt s i) w e) (h .0) (just-row w w refl) a)
       go rest false e =
           (refl, stop (just w) (map just ws ++ K) (just-stuck w (byteAt s i) (eqb-false (byteAt s i) w e)) a)
 
   -- a literal by its first letter
-  letter-at : (w : ℕ) (ws : List ℕ) → 0 < w → Letters ws → expand literal w ≡ Push (map just ws) → (at : ℕ) → byteAt s at ≡ w → At K₀ start s (literal ∷ K) at → Answers K₀ start s K (wordAt s at (w ∷ ws))
-  unfolding wordAt
+  letter-at : (w : ℕ) (ws : List ℕ) → 0 < w → Letters ws → expand literal w ≡ Push (map just ws) → (at : ℕ) → byteAt s at ≡ w → At K₀ start s (literal ∷ K) at → Answers K₀ start s K (spelledAt s at (w ∷ ws))
+  unfolding spelledAt
   letter-at w ws p h x at e a =
-      rw (wordAt, eq-eqb (byteAt s at) w e) (word-at ws h (at + 1) (push-at literal K (map just ws) w e p x a))
+      rw (spelledAt, eq-eqb (byteAt s at) w e) (word-at ws h (at + 1) (push-at literal K (map just ws) w e p x a))
 
   pub literal-at : (at : ℕ) → At K₀ start s (literal ∷ K) at → Answers K₀ start s K (literalAt s at)
-  unfolding literalAt rowOf
+  unfolding literalAt codes rowOf
   literal-at at a =
       by-test (Answers K₀ start s K) (eqb (byteAt s at) 116) _ _
       (λ e. letter-at 116 _ (omega arith) (omega arith) refl at (eqb-true _ 116 e) a)

@@ -27,7 +27,7 @@ use Rattle.gate_calls.proofs.Demand3.{full-same, judged}
 use Rattle.desks_calls.specs.Join.{isShared, mayHold, holdsOnly, joinedSet, joinFault}
 use Rattle.desks_calls.proofs.Laws.{Joined, join-none}
 use Rattle.desk_refusals.proofs.Laws.{holds-not}
-use Rattle.join_bundle.specs.Joined.{isWritten, lengthJoined, outputJoined}
+use Rattle.join_bundle.specs.Joined.{isJoinWritten, lengthJoined, outputJoined}
 
 -- ---- a file of a bundle, put down again
 pub file-again : (s : List ℕ) (k : ℕ) → newFile (not (isOmitted s k)) (bytesOf (fileAt s k)) ≡ fileAt s k
@@ -259,19 +259,19 @@ module _ (desk shared out : List ℕ) where
   Ends r last = (r ≡ lengthJoined desk shared (length out)) × (last ≡ outputJoined desk shared out)
 
   pub ends-refused : {f : ℕ} → f ≡ joinFault 20 desk shared → (f ≡ 0 → ⊥) → Ends 0 out
-  unfolding isWritten lengthJoined outputJoined
+  unfolding isJoinWritten lengthJoined outputJoined
   ends-refused is some = rw (← is, ne-eqb _ 0 some) (refl, refl)
 
   module _ {f : ℕ} (is : f ≡ joinFault 20 desk shared) (none : f ≡ 0) {n : ℕ} (n-is : n ≡ bundleLength 20 (joinedSet desk shared)) where
     pub ends-long : 1048576 < n → Ends 0 out
-    unfolding isWritten lengthJoined outputJoined
+    unfolding isJoinWritten lengthJoined outputJoined
     ends-long l = rw (← is, eq-eqb f 0 none, ← n-is, lt-leb n 1048576 l) (refl, refl)
 
     module _ (short : n ≤ 1048576) where
       pub ends-over : length out < n → Ends 0 out
-      unfolding isWritten lengthJoined outputJoined
+      unfolding isJoinWritten lengthJoined outputJoined
       ends-over l = rw (← is, eq-eqb f 0 none, ← n-is, le-leb n 1048576 short, lt-leb n (length out) l) (refl, refl)
 
       pub ends-written : n ≤ length out → {last : List ℕ} → last ≡ outputOf 20 (joinedSet desk shared) out → Ends n last
-      unfolding isWritten lengthJoined outputJoined
+      unfolding isJoinWritten lengthJoined outputJoined
       ends-written l e = rw (← is, eq-eqb f 0 none, ← n-is, le-leb n 1048576 short, le-leb n (length out) l) (refl, e)

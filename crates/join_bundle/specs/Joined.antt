@@ -10,14 +10,14 @@ use Rattle.bundle_layout.specs.Change.{outputOf}
 use Rattle.desks_calls.specs.Join.{joinedSet, joinFault}
 
 -- whether it is written to an output of so many bytes: the desk is not refused by the bundles, and it is short enough for both
-unfoldable pub isWritten : List ℕ → List ℕ → ℕ → Bool
-isWritten desk shared room =
+unfoldable pub isJoinWritten : List ℕ → List ℕ → ℕ → Bool
+isJoinWritten desk shared room =
     eqb (joinFault 20 desk shared) 0
     && (leb (bundleLength 20 (joinedSet desk shared)) 1048576 && leb (bundleLength 20 (joinedSet desk shared)) room)
 
 -- its length, 0 where it is not written, and what the output then holds
 unfoldable pub lengthJoined : List ℕ → List ℕ → ℕ → ℕ
-lengthJoined desk shared room = cond (isWritten desk shared room) (bundleLength 20 (joinedSet desk shared)) 0
+lengthJoined desk shared room = cond (isJoinWritten desk shared room) (bundleLength 20 (joinedSet desk shared)) 0
 
 unfoldable pub outputJoined : List ℕ → List ℕ → List ℕ → List ℕ
-outputJoined desk shared out = cond (isWritten desk shared (length out)) (outputOf 20 (joinedSet desk shared) out) out
+outputJoined desk shared out = cond (isJoinWritten desk shared (length out)) (outputOf 20 (joinedSet desk shared) out) out

@@ -10,7 +10,8 @@ use mathlib.Core.List.{List, [], _∷_, _++_, map}
 use native.Mathlib.Omega.{arith}
 use borrow.Author.Tests.{eqb-true, eqb-false, eq-eqb}
 use lib.Dec.{eqb}
-use Rattle.json_bytes.specs.Reads.{byteAt, wordAt, literalAt}
+use Rattle.json_bytes.specs.Ascii.{codes}
+use Rattle.json_bytes.specs.Reads.{byteAt, spelledAt, literalAt}
 use Rattle.json_bytes.specs.declared.Reading.{Reading}
 use Rattle.json_bytes.specs.declared.Reading.the-variants.{Whole, Fault}
 use Rattle.json_bytes.proofs.Laws.{either, both-left, both-right}
@@ -92,17 +93,17 @@ kindOf (Fault kind place) = kind
 abbrev pub literalKinds : List ℕ
 literalKinds = 11 ∷ []
 
-word-kinds : (s : List ℕ) (i : ℕ) (word : List ℕ) → Faults literalKinds (wordAt s i word)
-unfolding wordAt
+word-kinds : (s : List ℕ) (i : ℕ) (word : List ℕ) → Faults literalKinds (spelledAt s i word)
+unfolding spelledAt
 word-kinds s i [] = tt
 word-kinds s i (w ∷ ws) = go (eqb (byteAt s i) w) (word-kinds s (i + 1) ws)
   where
-    go : (t : Bool) → Faults literalKinds (wordAt s (i + 1) ws) → Faults literalKinds (elim t [ true ↦ wordAt s (i + 1) ws | false ↦ Fault 11 i ])
+    go : (t : Bool) → Faults literalKinds (spelledAt s (i + 1) ws) → Faults literalKinds (elim t [ true ↦ spelledAt s (i + 1) ws | false ↦ Fault 11 i ])
     go true rest = rest
     go false rest = refl
 
 pub literal-kinds : (s : List ℕ) (at : ℕ) → Faults literalKinds (literalAt s at)
-unfolding literalAt
+unfolding literalAt codes
 literal-kinds s at =
     either (Faults literalKinds) (eqb (byteAt s at) 116) _ _ (word-kinds s at _)
     (either (Faults literalKinds) (eqb (byteAt s at) 102) _ _ (word-kinds s at _)

@@ -11,7 +11,8 @@ use borrow.Author.Tests.{eq-eqb, ne-eqb, leb-true}
 use lib.ListN.{length, getD, drop, drop-of-length-le}
 use lib.Seq.{drop-cons}
 use lib.Dec.{leb, eqb}
-use Rattle.json_bytes.specs.Reads.{leading, within, byteAt, wordAt, literalAt}
+use Rattle.json_bytes.specs.Ascii.{codes}
+use Rattle.json_bytes.specs.Reads.{leading, within, byteAt, spelledAt, literalAt}
 use Rattle.json_bytes.specs.declared.Reading.{Reading}
 use Rattle.json_bytes.specs.declared.Reading.the-variants.{Whole, Fault}
 
@@ -78,32 +79,32 @@ leading-bound f (b ∷ bs) = go (f b) (leading-bound f bs)
 
 -- ---- a word, letter by letter
 module _ (s : List ℕ) (at : ℕ) (word : List ℕ) (k : ℕ) where
-  pub word-more : k < length word → byteAt s (at + k) ≡ getD word k 0 → wordAt s (at + k) (drop k word) ≡ wordAt s (at + (k + 1)) (drop (k + 1) word)
-  unfolding wordAt
-  word-more l e = rw (drop-cons word k 0 l, eq-eqb _ _ e, wordAt, add-one k, add-suc at k, add-one (at + k))
+  pub word-more : k < length word → byteAt s (at + k) ≡ getD word k 0 → spelledAt s (at + k) (drop k word) ≡ spelledAt s (at + (k + 1)) (drop (k + 1) word)
+  unfolding spelledAt
+  word-more l e = rw (drop-cons word k 0 l, eq-eqb _ _ e, spelledAt, add-one k, add-suc at k, add-one (at + k))
 
-  pub word-stops : k < length word → (byteAt s (at + k) ≡ getD word k 0 → ⊥) → wordAt s (at + k) (drop k word) ≡ Fault 11 (at + k)
-  unfolding wordAt
-  word-stops l e = rw (drop-cons word k 0 l, ne-eqb _ _ e, wordAt)
+  pub word-stops : k < length word → (byteAt s (at + k) ≡ getD word k 0 → ⊥) → spelledAt s (at + k) (drop k word) ≡ Fault 11 (at + k)
+  unfolding spelledAt
+  word-stops l e = rw (drop-cons word k 0 l, ne-eqb _ _ e, spelledAt)
 
-  pub word-ends : length word ≤ k → wordAt s (at + k) (drop k word) ≡ Whole (at + k)
-  unfolding wordAt
+  pub word-ends : length word ≤ k → spelledAt s (at + k) (drop k word) ≡ Whole (at + k)
+  unfolding spelledAt
   word-ends l = rw (drop-of-length-le word l)
 
 -- ---- a literal, by its first byte
 module _ (s : List ℕ) (at b : ℕ) (is : b ≡ byteAt s at) where
-  pub begins-true : b ≡ 116 → literalAt s at ≡ wordAt s at (116 ∷ 114 ∷ 117 ∷ 101 ∷ [])
-  unfolding literalAt
+  pub begins-true : b ≡ 116 → literalAt s at ≡ spelledAt s at (116 ∷ 114 ∷ 117 ∷ 101 ∷ [])
+  unfolding literalAt codes
   begins-true e = rw (← is, eq-eqb b 116 e)
 
-  pub begins-false : (b ≡ 116 → ⊥) → b ≡ 102 → literalAt s at ≡ wordAt s at (102 ∷ 97 ∷ 108 ∷ 115 ∷ 101 ∷ [])
-  unfolding literalAt
+  pub begins-false : (b ≡ 116 → ⊥) → b ≡ 102 → literalAt s at ≡ spelledAt s at (102 ∷ 97 ∷ 108 ∷ 115 ∷ 101 ∷ [])
+  unfolding literalAt codes
   begins-false n e = rw (← is, ne-eqb b 116 n, eq-eqb b 102 e)
 
-  pub begins-null : (b ≡ 116 → ⊥) → (b ≡ 102 → ⊥) → b ≡ 110 → literalAt s at ≡ wordAt s at (110 ∷ 117 ∷ 108 ∷ 108 ∷ [])
-  unfolding literalAt
+  pub begins-null : (b ≡ 116 → ⊥) → (b ≡ 102 → ⊥) → b ≡ 110 → literalAt s at ≡ spelledAt s at (110 ∷ 117 ∷ 108 ∷ 108 ∷ [])
+  unfolding literalAt codes
   begins-null n m e = rw (← is, ne-eqb b 116 n, ne-eqb b 102 m, eq-eqb b 110 e)
 
   pub begins-none : (b ≡ 116 → ⊥) → (b ≡ 102 → ⊥) → (b ≡ 110 → ⊥) → literalAt s at ≡ Fault 11 at
-  unfolding literalAt
+  unfolding literalAt codes
   begins-none n m o = rw (← is, ne-eqb b 116 n, ne-eqb b 102 m, ne-eqb b 110 o)

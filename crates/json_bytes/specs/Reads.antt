@@ -7,6 +7,7 @@ use lib.ListN.{length, getD, drop}
 use lib.Dec.{leb, eqb}
 use Rattle.json_bytes.specs.declared.Reading.{Reading}
 use Rattle.json_bytes.specs.declared.Reading.the-variants.{Whole, Fault}
+use Rattle.json_bytes.specs.Ascii.{codes}
 
 -- the byte at a place; 0, which no JSON text holds, past the end
 abbrev pub byteAt : List ℕ → ℕ → ℕ
@@ -30,13 +31,13 @@ unfoldable pub spacesEnd : List ℕ → ℕ → ℕ
 spacesEnd s at = at + leading isSpace (drop at s)
 
 -- a word letter by letter: whole behind its last, or 11 at the first byte that differs
-unfoldable pub wordAt : List ℕ → ℕ → List ℕ → Reading
-wordAt s i [] = Whole i
-wordAt s i (w ∷ ws) = elim (eqb (byteAt s i) w) [ true ↦ wordAt s (i + 1) ws | false ↦ Fault 11 i ]
+unfoldable pub spelledAt : List ℕ → ℕ → List ℕ → Reading
+spelledAt s i [] = Whole i
+spelledAt s i (w ∷ ws) = elim (eqb (byteAt s i) w) [ true ↦ spelledAt s (i + 1) ws | false ↦ Fault 11 i ]
 
 -- a literal is true, false or null, told by its first byte; any other first byte is itself the fault
 unfoldable pub literalAt : List ℕ → ℕ → Reading
 literalAt s at =
-    cond (eqb (byteAt s at) 116) (wordAt s at (116 ∷ 114 ∷ 117 ∷ 101 ∷ []))
-    (cond (eqb (byteAt s at) 102) (wordAt s at (102 ∷ 97 ∷ 108 ∷ 115 ∷ 101 ∷ []))
-    (cond (eqb (byteAt s at) 110) (wordAt s at (110 ∷ 117 ∷ 108 ∷ 108 ∷ [])) (Fault 11 at)))
+    cond (eqb (byteAt s at) 116) (spelledAt s at (codes "true"))
+    (cond (eqb (byteAt s at) 102) (spelledAt s at (codes "false"))
+    (cond (eqb (byteAt s at) 110) (spelledAt s at (codes "null")) (Fault 11 at)))

@@ -3,7 +3,7 @@
 ghost use mathlib.Core.Path.{_≡_};
 ghost use Prim.Native.Nat.{_<_};
 ghost use lib.ListN.{length};
-ghost use Rattle.json_bytes.specs.Reads.{byteAt, within, isSpace, spacesEnd, literalAt, wordAt};
+ghost use Rattle.json_bytes.specs.Reads.{byteAt, within, isSpace, spacesEnd, literalAt, spelledAt};
 
 // What reading a token gives: the place behind it, or the kind and place of its fault.
 pub enum Reading {
@@ -62,7 +62,7 @@ pub fn skip_spaces(s: &[u8], at: usize) -> usize
 // A word letter by letter: whole behind its last, or 11 at the first byte that differs.
 fn word_at(s: &[u8], at: usize, word: &[u8]) -> Reading
     requires { ⌜ at < length (now s) ⌝ }
-    ensures { λ r. ⌜ r ≡ wordAt (now (s .entry)) at (now (word .entry)) ⌝ }
+    ensures { λ r. ⌜ r ≡ spelledAt (now (s .entry)) at (now (word .entry)) ⌝ }
 {
     let mut k = 0;
     while k < word.len() {

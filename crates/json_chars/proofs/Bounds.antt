@@ -12,7 +12,7 @@ use lib.ListN.{length}
 use lib.Dec.{ltb, eqb, lit<}
 use Rattle.json_bytes.specs.Reads.{byteAt, within}
 use Rattle.json_bytes.proofs.Laws.{inside, by-test, both-right, within-from}
-use Rattle.json_chars.specs.Step.{second, isTwo, isThree, isFour, sequenceOf, sequenceAt, letterEscape, hexDigit, digitAt, unitAt, unitOf, escapedAt, isPair, joined, escapeAt, stepAt}
+use Rattle.json_chars.specs.Step.{second, isTwo, isThree, isFour, sequenceOf, sequenceAt, letterEscape, hexDigit, digitAt, unitAt, unitOf, escapedAt, isPair, surrogatesJoined, escapeAt, stepAt}
 use Rattle.json_chars.specs.declared.Step.{Step}
 use Rattle.json_chars.specs.declared.Step.the-variants.{Char, Close, Bad}
 use Rattle.json_chars.specs.declared.Unit16.{Unit16}
@@ -108,8 +108,8 @@ escaped-in s i l =
     of-unit (Hex u) g h = omega (arith, g)
     of-unit (NoHex p) g h = omega arith
 
-joined-good : (s : List ℕ) (i : ℕ) (u : Unit16) → i ≤ length s → UnitGood s (i + 2) u → Good s i (joined s i u)
-unfolding joined
+joined-good : (s : List ℕ) (i : ℕ) (u : Unit16) → i ≤ length s → UnitGood s (i + 2) u → Good s i (surrogatesJoined s i u)
+unfolding surrogatesJoined
 joined-good s i (NoHex p) l g = g
 joined-good s i (Hex u) l g =
     by-test (Good s i) (isPair u (escapedAt s (i + 6))) _ _

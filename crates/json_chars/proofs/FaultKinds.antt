@@ -7,7 +7,7 @@ use lib.Dec.{ltb, eqb}
 use Rattle.json_bytes.specs.Reads.{byteAt}
 use Rattle.json_bytes.proofs.Laws.{either}
 use Rattle.json_bytes.proofs.FaultKinds.{In}
-use Rattle.json_chars.specs.Step.{isTwo, isThree, isFour, sequenceOf, sequenceAt, letterEscape, unitAt, escapedAt, isPair, joined, escapeAt, stepAt}
+use Rattle.json_chars.specs.Step.{isTwo, isThree, isFour, sequenceOf, sequenceAt, letterEscape, unitAt, escapedAt, isPair, surrogatesJoined, escapeAt, stepAt}
 use Rattle.json_chars.specs.declared.Step.{Step}
 use Rattle.json_chars.specs.declared.Step.the-variants.{Char, Close, Bad}
 use Rattle.json_chars.specs.declared.Unit16.{Unit16}
@@ -26,8 +26,8 @@ module _ (s : List ℕ) (i : ℕ) where
   abbrev Known : Step → Type 0
   Known = StepFaults stepKinds
 
-  joined-kinds : (u : Unit16) → Known (joined s i u)
-  unfolding joined
+  joined-kinds : (u : Unit16) → Known (surrogatesJoined s i u)
+  unfolding surrogatesJoined
   joined-kinds (NoHex place) = refl
   joined-kinds (Hex u) = either Known (isPair u (escapedAt s (i + 6))) _ _ tt tt
 

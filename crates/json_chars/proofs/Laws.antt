@@ -8,7 +8,7 @@ use native.Mathlib.Omega.{arith}
 use borrow.Author.Tests.{lt-ltb, lt-leb}
 use Rattle.json_bytes.specs.Reads.{byteAt, within}
 use Rattle.json_bytes.proofs.Laws.{both-left, both-right}
-use Rattle.json_chars.specs.Step.{hexDigit, digitAt, unitAt, isPair, joined, escapedAt}
+use Rattle.json_chars.specs.Step.{hexDigit, digitAt, unitAt, isPair, surrogatesJoined, escapedAt}
 use Rattle.json_chars.specs.declared.Step.the-variants.{Char}
 use Rattle.json_chars.specs.declared.Unit16.the-variants.{Hex}
 
@@ -36,6 +36,6 @@ module _ (s : List ℕ) (i : ℕ) where
       rw (p, q, r, zero-digit s (i + 2) b isB e, zero-digit s (i + 3) c isC f, ← isX, ← isY, lt-ltb x 16 l, lt-ltb y 16 m) (ap Hex (omega arith))
 
   -- such a number is no surrogate
-  pub low-joined : (u : ℕ) → u < 256 → unitAt s (i + 2) ≡ Hex u → joined s i (unitAt s (i + 2)) ≡ Char u (i + 6)
-  unfolding joined isPair within
-  low-joined u l e = rw (e, joined, lt-leb 0xD800 u (omega arith))
+  pub low-joined : (u : ℕ) → u < 256 → unitAt s (i + 2) ≡ Hex u → surrogatesJoined s i (unitAt s (i + 2)) ≡ Char u (i + 6)
+  unfolding surrogatesJoined isPair within
+  low-joined u l e = rw (e, surrogatesJoined, lt-leb 0xD800 u (omega arith))

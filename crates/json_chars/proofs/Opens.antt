@@ -3,8 +3,8 @@
 use mathlib.Core.Bool.{Bool, true}
 use Rattle.json_bytes.proofs.Opens.{open-bytes}
 use Rattle.json_chars.specs.Chars.{charsFrom, charsAt}
-use Rattle.json_chars.specs.Step.{second, isTwo, isThree, isFour, sequenceOf, sequenceAt, letterEscape, hexDigit, digitAt, unitAt, unitOf, escapedAt, isPair, joined, escapeAt, stepAt}
+use Rattle.json_chars.specs.Step.{second, isTwo, isThree, isFour, sequenceOf, sequenceAt, letterEscape, hexDigit, digitAt, unitAt, unitOf, escapedAt, isPair, surrogatesJoined, escapeAt, stepAt}
 
 unfoldable pub open-chars : Bool
-unfolding open-bytes charsFrom charsAt second isTwo isThree isFour sequenceOf sequenceAt letterEscape hexDigit digitAt unitAt unitOf escapedAt isPair joined escapeAt stepAt
+unfolding open-bytes charsFrom charsAt second isTwo isThree isFour sequenceOf sequenceAt letterEscape hexDigit digitAt unitAt unitOf escapedAt isPair surrogatesJoined escapeAt stepAt
 open-chars = true

@@ -78,15 +78,15 @@ escapedAt s i = cond (eqb (byteAt s i) 92) (cond (eqb (byteAt s (i + 1)) 117) (u
 unfoldable pub isPair : ℕ → ℕ → Bool
 isPair high low = within 0xD800 0xDBFF high && within 0xDC00 0xDFFF low
 
-unfoldable pub joined : List ℕ → ℕ → Unit16 → Step
-joined s i (NoHex p) = Bad 11 p
-joined s i (Hex u) =
+unfoldable pub surrogatesJoined : List ℕ → ℕ → Unit16 → Step
+surrogatesJoined s i (NoHex p) = Bad 11 p
+surrogatesJoined s i (Hex u) =
     cond (isPair u (escapedAt s (i + 6))) (Char (0x10000 + (u - 0xD800) * 1024 + (escapedAt s (i + 6) - 0xDC00)) (i + 12)) (Char u (i + 6))
 
 -- an escape, its backslash at i
 unfoldable pub escapeAt : List ℕ → ℕ → Step
 escapeAt s i =
-    cond (eqb (byteAt s (i + 1)) 117) (joined s i (unitAt s (i + 2)))
+    cond (eqb (byteAt s (i + 1)) 117) (surrogatesJoined s i (unitAt s (i + 2)))
     (cond (ltb 0 (letterEscape (byteAt s (i + 1)))) (Char (letterEscape (byteAt s (i + 1))) (i + 2)) (Bad 11 (i + 1)))
 
 -- ---- What stands at a place inside a string. Past the end the byte is 0: the file is cut off there, which is 11 at its length.

@@ -6,7 +6,7 @@ ghost use mathlib.Core.Bool.{cond};
 ghost use lib.Dec.{eqb};
 ghost use Prim.Native.Nat.{_+_, _^_, _<_};
 ghost use lib.ListN.{length};
-ghost use Rattle.json_chars.specs.Step.{second, isTwo, isThree, isFour, sequenceOf, sequenceAt, letterEscape, hexDigit, digitAt, unitAt, unitOf, escapedAt, isPair, joined, escapeAt, stepAt};
+ghost use Rattle.json_chars.specs.Step.{second, isTwo, isThree, isFour, sequenceOf, sequenceAt, letterEscape, hexDigit, digitAt, unitAt, unitOf, escapedAt, isPair, surrogatesJoined, escapeAt, stepAt};
 ghost use Rattle.json_bytes.specs.Reads.{byteAt};
 use json_bytes::byte_at;
 use json_bytes::is_within;
@@ -223,7 +223,7 @@ fn is_pair(high: u32, low: u32) -> bool
 // right behind it where it is a high one, else by itself.
 fn joined_at(s: &[u8], i: usize, unit: u32) -> Step
     requires { ⌜ i < length (now s) ⌝ }
-    ensures { λ r. ⌜ r ≡ joined (now (s .entry)) i (Unit16.Hex unit) ⌝ }
+    ensures { λ r. ⌜ r ≡ surrogatesJoined (now (s .entry)) i (Unit16.Hex unit) ⌝ }
 {
     let low = escaped_at(s, i + 6);
     if is_pair(unit, low) {
@@ -262,7 +262,7 @@ fn low_unit_at(s: &[u8], i: usize) -> u32
 // An escape of four digits, its backslash at i.
 fn unit_escape_at(s: &[u8], i: usize) -> Step
     requires { ⌜ i < length (now s) ⌝ }
-    ensures { λ r. ⌜ r ≡ joined (now (s .entry)) i (unitAt (now (s .entry)) (i + 2)) ⌝ }
+    ensures { λ r. ⌜ r ≡ surrogatesJoined (now (s .entry)) i (unitAt (now (s .entry)) (i + 2)) ⌝ }
 {
     let low = low_unit_at(s, i);
     if low < 256 {

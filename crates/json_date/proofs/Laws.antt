@@ -12,7 +12,7 @@ use Rattle.json_bytes.specs.Reads.{within}
 use Rattle.json_bytes.proofs.Laws.{by-test, both-left, both-right, within-from, within-to}
 use Rattle.json_date.specs.declared.Date.{Date}
 use Rattle.json_date.specs.declared.Date.the-variants.{Day, NoDate}
-use Rattle.json_date.specs.Date.{isLeap, monthDays, isDay, digitsAt, twoAt, hasForm, yearOf, monthOf, dayOf, dateOf}
+use Rattle.json_date.specs.Date.{isLeap, monthDays, isDay, allDigitsAt, twoAt, hasForm, yearOf, monthOf, dayOf, dateOf}
 
 -- ---- two digits
 pub record Digit (c : ℕ) : Type 0 where
@@ -22,36 +22,36 @@ pub record Digit (c : ℕ) : Type 0 where
 digit : (c : ℕ) → within 48 57 c ≡ true → Digit c
 digit c e = record { from = within-from 48 57 c e; to = within-to 48 57 c e }
 
-module _ (cs : List ℕ) (i : ℕ) (e : digitsAt cs i ≡ true) where
+module _ (cs : List ℕ) (i : ℕ) (e : allDigitsAt cs i ≡ true) where
   pub first-digit : Digit (getD cs i 0)
-  unfolding digitsAt
+  unfolding allDigitsAt
   first-digit = digit (getD cs i 0) (both-left (within 48 57 (getD cs i 0)) (within 48 57 (getD cs (i + 1) 0)) e)
 
   pub second-digit : Digit (getD cs (i + 1) 0)
-  unfolding digitsAt
+  unfolding allDigitsAt
   second-digit = digit (getD cs (i + 1) 0) (both-right (within 48 57 (getD cs i 0)) (within 48 57 (getD cs (i + 1) 0)) e)
 
 -- ---- the form
 pub record Form (cs : List ℕ) : Type 0 where
   pub ten : length cs ≡ 10
-  pub century : digitsAt cs 0 ≡ true
-  pub year : digitsAt cs 2 ≡ true
-  pub month : digitsAt cs 5 ≡ true
-  pub day : digitsAt cs 8 ≡ true
+  pub century : allDigitsAt cs 0 ≡ true
+  pub year : allDigitsAt cs 2 ≡ true
+  pub month : allDigitsAt cs 5 ≡ true
+  pub day : allDigitsAt cs 8 ≡ true
 
 pub form : (cs : List ℕ) → hasForm cs ≡ true → Form cs
 unfolding hasForm
 form cs e =
-    let digits : (digitsAt cs 0 && (digitsAt cs 2 && (digitsAt cs 5 && digitsAt cs 8))) ≡ true =
+    let digits : (allDigitsAt cs 0 && (allDigitsAt cs 2 && (allDigitsAt cs 5 && allDigitsAt cs 8))) ≡ true =
     both-right (eqb (getD cs 7 0) 45) _ (both-right (eqb (getD cs 4 0) 45) _ (both-right (eqb (length cs) 10) _ e)) in
-    let later : (digitsAt cs 2 && (digitsAt cs 5 && digitsAt cs 8)) ≡ true = both-right (digitsAt cs 0) _ digits in
-    let last : (digitsAt cs 5 && digitsAt cs 8) ≡ true = both-right (digitsAt cs 2) _ later in
+    let later : (allDigitsAt cs 2 && (allDigitsAt cs 5 && allDigitsAt cs 8)) ≡ true = both-right (allDigitsAt cs 0) _ digits in
+    let last : (allDigitsAt cs 5 && allDigitsAt cs 8) ≡ true = both-right (allDigitsAt cs 2) _ later in
     record {
       ten = eqb-true (length cs) 10 (both-left (eqb (length cs) 10) _ e);
-      century = both-left (digitsAt cs 0) _ digits;
-      year = both-left (digitsAt cs 2) _ later;
-      month = both-left (digitsAt cs 5) _ last;
-      day = both-right (digitsAt cs 5) _ last;
+      century = both-left (allDigitsAt cs 0) _ digits;
+      year = both-left (allDigitsAt cs 2) _ later;
+      month = both-left (allDigitsAt cs 5) _ last;
+      day = both-right (allDigitsAt cs 5) _ last;
     }
 
 -- ---- the date, by the form and then by the calendar

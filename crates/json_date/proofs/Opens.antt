@@ -2,8 +2,8 @@
 -- added here asks nothing of those above.
 use mathlib.Core.Bool.{Bool, true}
 use Rattle.json_chars.proofs.Opens.{open-chars}
-use Rattle.json_date.specs.Date.{isLeap, monthDays, isDay, digitsAt, twoAt, hasForm, yearOf, monthOf, dayOf, dateOf}
+use Rattle.json_date.specs.Date.{isLeap, monthDays, isDay, allDigitsAt, twoAt, hasForm, yearOf, monthOf, dayOf, dateOf}
 
 unfoldable pub open-dates : Bool
-unfolding open-chars isLeap monthDays isDay digitsAt twoAt hasForm yearOf monthOf dayOf dateOf
+unfolding open-chars isLeap monthDays isDay allDigitsAt twoAt hasForm yearOf monthOf dayOf dateOf
 open-dates = true

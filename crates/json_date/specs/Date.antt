@@ -22,8 +22,8 @@ isDay y m d = within 1 9999 y && (within 1 12 m && within 1 (monthDays y m) d)
 
 -- ---- The form
 -- whether two digits stand at a place, and their number
-unfoldable pub digitsAt : List ℕ → ℕ → Bool
-digitsAt cs i = within 48 57 (getD cs i 0) && within 48 57 (getD cs (i + 1) 0)
+unfoldable pub allDigitsAt : List ℕ → ℕ → Bool
+allDigitsAt cs i = within 48 57 (getD cs i 0) && within 48 57 (getD cs (i + 1) 0)
 
 unfoldable pub twoAt : List ℕ → ℕ → ℕ
 twoAt cs i = (getD cs i 0 - 48) * 10 + (getD cs (i + 1) 0 - 48)
@@ -31,7 +31,7 @@ twoAt cs i = (getD cs i 0 - 48) * 10 + (getD cs (i + 1) 0 - 48)
 -- `yyyy-mm-dd`: ten characters, a dash at 4 and at 7, digits elsewhere
 unfoldable pub hasForm : List ℕ → Bool
 hasForm cs =
-    eqb (length cs) 10 && (eqb (getD cs 4 0) 45 && (eqb (getD cs 7 0) 45 && (digitsAt cs 0 && (digitsAt cs 2 && (digitsAt cs 5 && digitsAt cs 8)))))
+    eqb (length cs) 10 && (eqb (getD cs 4 0) 45 && (eqb (getD cs 7 0) 45 && (allDigitsAt cs 0 && (allDigitsAt cs 2 && (allDigitsAt cs 5 && allDigitsAt cs 8)))))
 
 unfoldable pub yearOf : List ℕ → ℕ
 yearOf cs = twoAt cs 0 * 100 + twoAt cs 2

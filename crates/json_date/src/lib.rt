@@ -7,7 +7,7 @@ ghost use Prim.Native.Nat.{_+_, _≤_, _<_};
 ghost use lib.ListN.{length, take, drop};
 ghost use Rattle.json_bytes.specs.Reads.{byteAt};
 ghost use Rattle.json_chars.specs.Chars.{charsAt};
-ghost use Rattle.json_date.specs.Date.{isLeap, monthDays, isDay, digitsAt, twoAt, hasForm, dateOf};
+ghost use Rattle.json_date.specs.Date.{isLeap, monthDays, isDay, allDigitsAt, twoAt, hasForm, dateOf};
 use json_bytes::byte_at;
 use json_bytes::is_within;
 use json_chars::Step;
@@ -69,7 +69,7 @@ fn is_day(year: u32, month: u32, day: u32) -> bool
 // Whether two digits stand at a place.
 fn digits_at(c: &[u32], i: usize) -> bool
     requires { ⌜ i + 1 < length (now c) ⌝ }
-    ensures { λ r. ⌜ r ≡ digitsAt (now (c .entry)) i ⌝ }
+    ensures { λ r. ⌜ r ≡ allDigitsAt (now (c .entry)) i ⌝ }
 {
     if is_within(48, 57, c[i]) {
         return is_within(48, 57, c[i + 1]);
@@ -79,7 +79,7 @@ fn digits_at(c: &[u32], i: usize) -> bool
 
 // The number of the two digits at a place.
 fn two_at(c: &[u32], i: usize) -> u32
-    requires { ⌜ (i + 1 < length (now c)) × (digitsAt (now c) i ≡ true) ⌝ }
+    requires { ⌜ (i + 1 < length (now c)) × (allDigitsAt (now c) i ≡ true) ⌝ }
     ensures { λ r. ⌜ (r ≡ twoAt (now (c .entry)) i) × (r < 100) ⌝ }
 {
     (c[i] - 48) * 10 + (c[i + 1] - 48)

@@ -15,7 +15,7 @@ use Rattle.json_number.specs.declared.Value.the-variants.{Fits, Beyond}
 use Rattle.json_number.proofs.Scale.{nonzero, ten-pos}
 use Rattle.json_number.proofs.Trim.{one-way, trims, trimmed-zero, trimmed-nonzero}
 use Rattle.json_number.proofs.Limits.{within-c, within-p, limited-is, limited-fits, limited-c, limited-low, limited-high, limited-within, limited-parts, value-zero, value-below, value-above}
-use Rattle.json_meaning.specs.Decimals.{Written, digitsValue, hasMinus, coefficient, raisedBy, loweredBy, OneForm, Means}
+use Rattle.json_meaning.specs.Decimals.{Written, digitsValue, hasMinus, coefficient, raisedBy, loweredBy, OneForm, MeansValue}
 
 -- ---- The one form of a number that is not zero
 module _ (w : Written) (n : coefficient w ≡ 0 → ⊥) where
@@ -107,7 +107,7 @@ module _ (w : Written) where
       nonzero d (10 ^ (raise + loweredBy w)) (λ q. f .last (ap (λ (x : ℕ). x % 10) q)) (ten-pos (raise + loweredBy w) refl)
       (f .same ∙ ap (λ (x : ℕ). x * 10 ^ (raisedBy w + lower)) e ∙ zero-mul (10 ^ (raisedBy w + lower)))
 
-  pub means : Means w Read
+  pub means : MeansValue w Read
   means = record {
     zero = read-zero;
     other = λ n. (t w n, z w n + raisedBy w, loweredBy w, form-exists n);

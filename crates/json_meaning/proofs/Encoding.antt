@@ -13,7 +13,7 @@ use lib.ListN.{length, take, drop}
 use lib.Dec.{ltb, eqb}
 use Rattle.json_bytes.specs.Reads.{byteAt, within}
 use Rattle.json_bytes.proofs.Laws.{by-test, inside, within-from, within-to}
-use Rattle.json_chars.specs.Step.{isTwo, isThree, isFour, sequenceOf, sequenceAt, letterEscape, digitAt, unitAt, escapedAt, isPair, joined, escapeAt, stepAt}
+use Rattle.json_chars.specs.Step.{isTwo, isThree, isFour, sequenceOf, sequenceAt, letterEscape, digitAt, unitAt, escapedAt, isPair, surrogatesJoined, escapeAt, stepAt}
 use Rattle.json_chars.specs.declared.Step.{Step}
 use Rattle.json_chars.specs.declared.Step.the-variants.{Char, Close, Bad}
 use Rattle.json_chars.specs.declared.Unit16.{Unit16}
@@ -251,13 +251,13 @@ letter-small b =
 module _ (s : List ℕ) (i : ℕ) where
   -- what an escape is: a fault, a pair, a unit for itself, or a letter
   pub by-escape : (P : Step → Type 0) → ((place : ℕ) → P (Bad 11 place)) → ((u : ℕ) → isPair u (escapedAt s (i + 6)) ≡ true → P (Char (0x10000 + (u - 0xD800) * 1024 + (escapedAt s (i + 6) - 0xDC00)) (i + 12))) → ((u : ℕ) → byteAt s (i + 1) ≡ 0x75 → unitAt s (i + 2) ≡ Hex u → isPair u (escapedAt s (i + 6)) ≡ false → P (Char u (i + 6))) → P (Char (letterEscape (byteAt s (i + 1))) (i + 2)) → P (escapeAt s i)
-  unfolding escapeAt joined
+  unfolding escapeAt surrogatesJoined
   by-escape P fault pair unit letter =
       by-test P (eqb (byteAt s (i + 1)) 117) _ _
       (λ e. by-unit (unitAt s (i + 2)) refl (eqb-true (byteAt s (i + 1)) 117 e))
       (λ _. by-test P (ltb 0 (letterEscape (byteAt s (i + 1)))) _ _ (λ _. letter) (λ _. fault (i + 1)))
     where
-      by-unit : (x : Unit16) → unitAt s (i + 2) ≡ x → byteAt s (i + 1) ≡ 0x75 → P (joined s i x)
+      by-unit : (x : Unit16) → unitAt s (i + 2) ≡ x → byteAt s (i + 1) ≡ 0x75 → P (surrogatesJoined s i x)
       by-unit (NoHex p) q e = fault p
       by-unit (Hex u) q e = by-test P (isPair u (escapedAt s (i + 6))) _ _ (λ t. pair u t) (λ t. unit u e q t)
 

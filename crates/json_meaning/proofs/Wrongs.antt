@@ -19,7 +19,7 @@ use Rattle.json_chars.specs.Chars.{charsAt}
 use Rattle.json_chars.specs.declared.Step.the-variants.{Char, Close}
 use Rattle.json_chars.proofs.Bounds.{step-good, Good}
 use Rattle.json_number.proofs.Scale.{same-test}
-use Rattle.json_text.specs.Text.{textAt, wrongSpace, ruleOf, none, wrongHere, firstOf, closesAt, wrongFrom, wrongAt}
+use Rattle.json_text.specs.Text.{textAt, wrongSpace, ruleBroken, none, wrongHere, firstWrong, closesAt, wrongFrom, wrongAt}
 use Rattle.json_text.specs.declared.TextType.{TextType}
 use Rattle.json_text.specs.declared.Wrong.{Wrong}
 use Rattle.json_meaning.specs.Unicode.{isSurrogate}
@@ -35,7 +35,7 @@ module _ (ty : TextType) where
   wrongIn : Bool → List ℕ → List ℕ → Wrong
   wrongIn edge [] ps = none
   wrongIn edge (c ∷ cs) [] = none
-  wrongIn edge (c ∷ cs) (p ∷ ps) = firstOf (wrongHere (ruleOf ty c (edge || isEmpty cs)) p) (wrongIn (eqb c 32) cs ps)
+  wrongIn edge (c ∷ cs) (p ∷ ps) = firstWrong (wrongHere (ruleBroken ty c (edge || isEmpty cs)) p) (wrongIn (eqb c 32) cs ps)
 
 module _ (s : List ℕ) where
   -- a character is the last exactly if the closing quote is behind it
@@ -135,15 +135,15 @@ first-told n (false ∷ bs) =
     low-later zero m h l = refl
     low-later (suc k) m h l = h .lowest k (omega arith)
 
-rule-is : (ty : TextType) (c : ℕ) (edge : Bool) → ruleOf ty c edge ≡ firstTrue 1 (rulesOf ty c edge)
-unfolding ruleOf wrongSpace firstTrue isSurrogate
+rule-is : (ty : TextType) (c : ℕ) (edge : Bool) → ruleBroken ty c edge ≡ firstTrue 1 (rulesOf ty c edge)
+unfolding ruleBroken wrongSpace firstTrue isSurrogate
 rule-is ty c edge = refl
 
 -- ---- The walk finds the first
 module _ (ty : TextType) where
   -- the rule that character k breaks, as the walk sees it
   ruleIn : Bool → List ℕ → ℕ → ℕ
-  ruleIn edge cs k = ruleOf ty (getD cs k 0) (edgeIn edge cs k)
+  ruleIn edge cs k = ruleBroken ty (getD cs k 0) (edgeIn edge cs k)
 
   record Found (edge : Bool) (cs ps : List ℕ) (k : ℕ) : Type 0 where
     within : k < length cs
@@ -155,21 +155,21 @@ module _ (ty : TextType) where
     each : (k : ℕ) → k < length cs → ruleIn edge cs k ≡ 0
     is : wrongIn ty edge cs ps ≡ record { rule = 0; place = 0 }
 
-  here-some : (rule p : ℕ) (v : Wrong) → 0 < rule → firstOf (wrongHere rule p) v ≡ record { rule = rule; place = p }
-  unfolding firstOf wrongHere
+  here-some : (rule p : ℕ) (v : Wrong) → 0 < rule → firstWrong (wrongHere rule p) v ≡ record { rule = rule; place = p }
+  unfolding firstWrong wrongHere
   here-some rule p v l = rw (lt-ltb 0 rule l, lt-ltb 0 rule l)
 
-  here-none : (rule p : ℕ) (v : Wrong) → rule ≡ 0 → firstOf (wrongHere rule p) v ≡ v
-  unfolding firstOf wrongHere none
+  here-none : (rule p : ℕ) (v : Wrong) → rule ≡ 0 → firstWrong (wrongHere rule p) v ≡ v
+  unfolding firstWrong wrongHere none
   here-none rule p v e = rw e
 
   walk-told : (edge : Bool) (cs ps : List ℕ) → length cs ≡ length ps → Nothing edge cs ps ⊎ ((k : ℕ) × Found edge cs ps k)
   unfolding wrongIn ruleIn edgeIn none
   walk-told edge [] ps e = inl (record { each = λ k l. absurd (omega arith); is = refl })
   walk-told edge (c ∷ cs) [] e = absurd (omega arith)
-  walk-told edge (c ∷ cs) (p ∷ ps) e = go (ℕ-discrete (ruleOf ty c (edge || isEmpty cs)) 0) (walk-told (eqb c 32) cs ps (omega arith))
+  walk-told edge (c ∷ cs) (p ∷ ps) e = go (ℕ-discrete (ruleBroken ty c (edge || isEmpty cs)) 0) (walk-told (eqb c 32) cs ps (omega arith))
     where
-      go : Dec (ruleOf ty c (edge || isEmpty cs) ≡ 0) → Nothing (eqb c 32) cs ps ⊎ ((k : ℕ) × Found (eqb c 32) cs ps k) → Nothing edge (c ∷ cs) (p ∷ ps) ⊎ ((k : ℕ) × Found edge (c ∷ cs) (p ∷ ps) k)
+      go : Dec (ruleBroken ty c (edge || isEmpty cs) ≡ 0) → Nothing (eqb c 32) cs ps ⊎ ((k : ℕ) × Found (eqb c 32) cs ps k) → Nothing edge (c ∷ cs) (p ∷ ps) ⊎ ((k : ℕ) × Found edge (c ∷ cs) (p ∷ ps) k)
       go (no n) rest = inr (0, record { within = omega arith; some = omega arith; earlier = λ j l. absurd (omega arith); is = here-some _ p _ (omega arith) })
       go (yes z) (inl h) = inl (record { each = each; is = here-none _ p _ z ∙ h .is })
         where

@@ -87,7 +87,7 @@ pub record OneForm (w : Written) (d raise lower : ℕ) : Type 0 where
 
 -- what the reader's value says of it, with p kept as p + 15: "zero as c 0, p 0 without a sign"; "The limits on c and p then
 -- apply to that form", c at most 999,999,999,999,999 and p from -15 to 15
-pub record Means (w : Written) (v : Value) : Type 0 where
+pub record MeansValue (w : Written) (v : Value) : Type 0 where
   pub zero : coefficient w ≡ 0 → v ≡ Fits false 0 15
   pub other : (coefficient w ≡ 0 → ⊥) → (d : ℕ) × (raise : ℕ) × (lower : ℕ) × OneForm w d raise lower
   pub fits : (coefficient w ≡ 0 → ⊥) → (n : Bool) (d p15 : ℕ) → (v ≡ Fits n d p15) ↔ ((n ≡ w .negative) × OneForm w d p15 15 × (withinLimits d p15 ≡ true))
@@ -99,4 +99,4 @@ pub record NumberOf (s : List ℕ) (at end : ℕ) (v : Value) : Type 0 where
   pub grammar : IsNumber written
   pub stands : Stands s at (numberBytes written) end
   pub ended : Ended written (byteAt s end)
-  pub value : Means written v
+  pub value : MeansValue written v

@@ -17,7 +17,7 @@ use Rattle.json_chars.specs.Step.{stepAt}
 use Rattle.json_chars.specs.declared.Step.{Step}
 use Rattle.json_chars.specs.declared.Step.the-variants.{Char, Close, Bad}
 use Rattle.json_chars.proofs.Bounds.{step-good, Good}
-use Rattle.json_text.specs.Text.{textFrom, textAt, ruleOf, none, wrongHere, firstOf, closesAt, wrongFrom, wrongAt}
+use Rattle.json_text.specs.Text.{textFrom, textAt, ruleBroken, none, wrongHere, firstWrong, closesAt, wrongFrom, wrongAt}
 use Rattle.json_text.specs.declared.TextType.{TextType}
 use Rattle.json_text.specs.declared.Wrong.{Wrong}
 
@@ -46,17 +46,17 @@ text-within s at l =
 
 -- ---- the first wrong character
 -- what holds of none, and of every wrong character within the file, holds of the first
-module _ (P : Wrong → Type 0) (ty : TextType) (s : List ℕ) (of-none : P none) (of-char : (i code : ℕ) (edge : Bool) → i ≤ length s → P (record { rule = ruleOf ty code edge; place = i })) where
-  of-here : (i code : ℕ) (edge : Bool) → i ≤ length s → P (wrongHere (ruleOf ty code edge) i)
+module _ (P : Wrong → Type 0) (ty : TextType) (s : List ℕ) (of-none : P none) (of-char : (i code : ℕ) (edge : Bool) → i ≤ length s → P (record { rule = ruleBroken ty code edge; place = i })) where
+  of-here : (i code : ℕ) (edge : Bool) → i ≤ length s → P (wrongHere (ruleBroken ty code edge) i)
   unfolding wrongHere
-  of-here i code edge l = either P (ltb 0 (ruleOf ty code edge)) _ _ (of-char i code edge l) of-none
+  of-here i code edge l = either P (ltb 0 (ruleBroken ty code edge)) _ _ (of-char i code edge l) of-none
 
-  of-first : (w v : Wrong) → P w → P v → P (firstOf w v)
-  unfolding firstOf
+  of-first : (w v : Wrong) → P w → P v → P (firstWrong w v)
+  unfolding firstWrong
   of-first w v p q = either P (ltb 0 (w .rule)) _ _ p q
 
   of-step : (f i : ℕ) (edge : Bool) → i ≤ length s → ((next : ℕ) (after : Bool) → next ≤ length s → P (wrongFrom f ty s next after)) → (t : Step) → Good s i t → P (elim t [
-    | Char code next ↦ firstOf (wrongHere (ruleOf ty code (edge || closesAt s next)) i) (wrongFrom f ty s next (eqb code 32))
+    | Char code next ↦ firstWrong (wrongHere (ruleBroken ty code (edge || closesAt s next)) i) (wrongFrom f ty s next (eqb code 32))
     | Close ↦ none
     | Bad kind place ↦ none
   ])

@@ -16,7 +16,7 @@ use Rattle.json_chars.specs.Step.{stepAt}
 use Rattle.json_chars.specs.declared.Step.{Step}
 use Rattle.json_chars.specs.declared.Step.the-variants.{Char, Close, Bad}
 use Rattle.json_chars.proofs.FaultKinds.{stepKinds, StepFaults, step-kinds}
-use Rattle.json_text.specs.Text.{textFrom, textAt, barred, spacesOf, inRuns, isWhite, wrongSpace, outsideID, ruleOf, none, wrongAt}
+use Rattle.json_text.specs.Text.{textFrom, textAt, barred, spacesOf, inRuns, isWhite, wrongSpace, outsideID, ruleBroken, none, wrongAt}
 use Rattle.json_text.specs.declared.TextType.{TextType}
 use Rattle.json_text.specs.declared.TextType.the-variants.{Text, String, StringID}
 use Rattle.json_text.specs.declared.Wrong.{Wrong}
@@ -65,8 +65,8 @@ few-rules StringID = refl
 pub rule-few : (ty : TextType) (rule : ℕ) → Rule ty rule → rule ≤ 4
 rule-few ty rule h = leb-true rule 4 (each (λ n. leb n 4) (0 ∷ rulesOf ty) (few-rules ty) rule h)
 
-rule-is : (ty : TextType) (c : ℕ) (edge : Bool) → Rule ty (ruleOf ty c edge)
-unfolding ruleOf wrongSpace isWhite spacesOf inRuns outsideID
+rule-is : (ty : TextType) (c : ℕ) (edge : Bool) → Rule ty (ruleBroken ty c edge)
+unfolding ruleBroken wrongSpace isWhite spacesOf inRuns outsideID
 rule-is Text c edge =
     either (Rule Text) (barred c) _ _ refl (either (Rule Text) (within 0xD800 0xDFFF c) _ _ refl refl)
 rule-is String c edge =

@@ -19,7 +19,7 @@ use Rattle.json_bytes.proofs.Laws.{within-from, within-to}
 use Rattle.json_chars.proofs.Bounds.{step-good, Good}
 use Rattle.json_chars.proofs.Walk.{own-step}
 use Rattle.json_text.specs.Run.{isGraphic, Run, runEnd, edgeBehind}
-use Rattle.json_text.specs.Text.{textFrom, textAt, ruleOf, none, wrongHere, firstOf, closesAt, wrongFrom, wrongAt, textRead}
+use Rattle.json_text.specs.Text.{textFrom, textAt, ruleBroken, none, wrongHere, firstWrong, closesAt, wrongFrom, wrongAt, textRead}
 use Rattle.json_text.specs.declared.TextType.{TextType}
 use Rattle.json_text.specs.declared.Wrong.{Wrong}
 use Rattle.json_text.specs.declared.TextRead.{TextRead}
@@ -27,28 +27,28 @@ use Rattle.json_text.proofs.Spaces.{graphic-right}
 
 -- ---- the first of several wrong characters
 module _ (w v : Wrong) where
-  pub first-is : 0 < w .rule → firstOf w v ≡ w
-  unfolding firstOf
+  pub first-is : 0 < w .rule → firstWrong w v ≡ w
+  unfolding firstWrong
   first-is h = rw (lt-ltb 0 (w .rule) h)
 
-  pub first-not : w .rule ≤ 0 → firstOf w v ≡ v
-  unfolding firstOf
+  pub first-not : w .rule ≤ 0 → firstWrong w v ≡ v
+  unfolding firstWrong
   first-not h = rw (le-ltb 0 (w .rule) h)
 
-pub first-assoc : (w v u : Wrong) → firstOf w (firstOf v u) ≡ firstOf (firstOf w v) u
-unfolding firstOf
+pub first-assoc : (w v u : Wrong) → firstWrong w (firstWrong v u) ≡ firstWrong (firstWrong w v) u
+unfolding firstWrong
 first-assoc w v u = go (ltb 0 (w .rule)) refl
   where
-    go : (t : Bool) → ltb 0 (w .rule) ≡ t → firstOf w (firstOf v u) ≡ firstOf (firstOf w v) u
+    go : (t : Bool) → ltb 0 (w .rule) ≡ t → firstWrong w (firstWrong v u) ≡ firstWrong (firstWrong w v) u
     go true e = rw (e, e)
     go false e = rw e
 
 -- what is found wrong is tidy: without a rule it is none
-pub here-tidy : (rule i : ℕ) → firstOf (wrongHere rule i) none ≡ wrongHere rule i
-unfolding firstOf wrongHere none
+pub here-tidy : (rule i : ℕ) → firstWrong (wrongHere rule i) none ≡ wrongHere rule i
+unfolding firstWrong wrongHere none
 here-tidy rule i = go (ltb 0 rule) refl
   where
-    go : (t : Bool) → ltb 0 rule ≡ t → firstOf (wrongHere rule i) none ≡ wrongHere rule i
+    go : (t : Bool) → ltb 0 rule ≡ t → firstWrong (wrongHere rule i) none ≡ wrongHere rule i
     go true e = rw (e, e)
     go false e = rw e
 
@@ -57,35 +57,35 @@ pub record Left (ty : TextType) (s : List ℕ) (at : ℕ) (w : Wrong) (i : ℕ) 
   pub inside : i ≤ length s
   pub enough : length s < i + fuel
   pub reads : textFrom fuel s i ≡ textAt s at
-  pub wrongs : firstOf w (wrongFrom fuel ty s i edge) ≡ wrongAt ty s at
-  pub tidy : firstOf w none ≡ w
+  pub wrongs : firstWrong w (wrongFrom fuel ty s i edge) ≡ wrongAt ty s at
+  pub tidy : firstWrong w none ≡ w
 
 -- i ≤ length s < i + fuel, so that fuel is left for one step
 module _ (ty : TextType) (s : List ℕ) (at : ℕ) (w : Wrong) (i : ℕ) (edge : Bool) where
   abbrev after : ℕ → ℕ → Wrong
-  after code next = firstOf w (wrongHere (ruleOf ty code (edge || closesAt s next)) i)
+  after code next = firstWrong w (wrongHere (ruleBroken ty code (edge || closesAt s next)) i)
 
-  char-by : (f : ℕ) → i ≤ length s → length s < i + f → textFrom f s i ≡ textAt s at → firstOf w (wrongFrom f ty s i edge) ≡ wrongAt ty s at → (code next : ℕ) → stepAt s i ≡ Char code next → Left ty s at (after code next) next (eqb code 32)
+  char-by : (f : ℕ) → i ≤ length s → length s < i + f → textFrom f s i ≡ textAt s at → firstWrong w (wrongFrom f ty s i edge) ≡ wrongAt ty s at → (code next : ℕ) → stepAt s i ≡ Char code next → Left ty s at (after code next) next (eqb code 32)
   unfolding textFrom wrongFrom
   char-by zero l m r q code next e = absurd (omega arith)
   char-by (suc g) l m r q code next e =
       let b : Good s i (Char code next) = rw e at (step-good s i l) in
-      let here = wrongHere (ruleOf ty code (edge || closesAt s next)) i in
+      let here = wrongHere (ruleBroken ty code (edge || closesAt s next)) i in
       record {
         fuel = g;
         inside = b .1;
         enough = omega arith;
         reads = rw (e, textFrom) at r;
         wrongs = sym (first-assoc w here (wrongFrom g ty s next (eqb code 32))) ∙ (rw (e, wrongFrom) at q);
-        tidy = sym (first-assoc w here none) ∙ ap (firstOf w) (here-tidy _ i);
+        tidy = sym (first-assoc w here none) ∙ ap (firstWrong w) (here-tidy _ i);
       }
 
-  close-by : (f : ℕ) → i ≤ length s → length s < i + f → textFrom f s i ≡ textAt s at → firstOf w (wrongFrom f ty s i edge) ≡ wrongAt ty s at → stepAt s i ≡ Close → (textAt s at ≡ Whole (i + 1)) × (wrongAt ty s at ≡ firstOf w none)
+  close-by : (f : ℕ) → i ≤ length s → length s < i + f → textFrom f s i ≡ textAt s at → firstWrong w (wrongFrom f ty s i edge) ≡ wrongAt ty s at → stepAt s i ≡ Close → (textAt s at ≡ Whole (i + 1)) × (wrongAt ty s at ≡ firstWrong w none)
   unfolding textFrom wrongFrom
   close-by zero l m r q e = absurd (omega arith)
   close-by (suc g) l m r q e = (sym (rw (e, textFrom) at r), sym (rw (e, wrongFrom) at q))
 
-  bad-by : (f : ℕ) → i ≤ length s → length s < i + f → textFrom f s i ≡ textAt s at → firstOf w (wrongFrom f ty s i edge) ≡ wrongAt ty s at → (kind place : ℕ) → stepAt s i ≡ Bad kind place → (textAt s at ≡ Fault kind place) × (wrongAt ty s at ≡ firstOf w none)
+  bad-by : (f : ℕ) → i ≤ length s → length s < i + f → textFrom f s i ≡ textAt s at → firstWrong w (wrongFrom f ty s i edge) ≡ wrongAt ty s at → (kind place : ℕ) → stepAt s i ≡ Bad kind place → (textAt s at ≡ Fault kind place) × (wrongAt ty s at ≡ firstWrong w none)
   unfolding textFrom wrongFrom
   bad-by zero l m r q kind place e = absurd (omega arith)
   bad-by (suc g) l m r q kind place e = (sym (rw (e, textFrom) at r), sym (rw (e, wrongFrom) at q))
@@ -95,7 +95,7 @@ unfolding textRead
 both ty s at p q = rw (p, q)
 
 module _ (ty : TextType) (s : List ℕ) (at : ℕ) (w : Wrong) (i : ℕ) (edge : Bool) (left : Left ty s at w i edge) where
-  pub take-char : (code next rule : ℕ) (near : Bool) (v : Wrong) → stepAt s i ≡ Char code next → near ≡ (edge || closesAt s next) → rule ≡ ruleOf ty code near → v ≡ firstOf w (wrongHere rule i) → Left ty s at v next (eqb code 32)
+  pub take-char : (code next rule : ℕ) (near : Bool) (v : Wrong) → stepAt s i ≡ Char code next → near ≡ (edge || closesAt s next) → rule ≡ ruleBroken ty code near → v ≡ firstWrong w (wrongHere rule i) → Left ty s at v next (eqb code 32)
   take-char code next rule near v e isNear isRule isFirst =
       rw (isFirst, isRule, isNear)
       (char-by ty s at w i edge (left .fuel) (left .inside) (left .enough) (left .reads) (left .wrongs) code next e)
@@ -152,7 +152,7 @@ graphic-step s k g =
     let to = within-to 0x21 0x7E (byteAt s k) (slash .1) in
     (own-step s k (omega (arith, from)) (omega (arith, to)) (quote .0) (slash .0), slash .1)
 
-right-here : (w : Wrong) (i : ℕ) → firstOf w none ≡ w → firstOf w (wrongHere 0 i) ≡ w
+right-here : (w : Wrong) (i : ℕ) → firstWrong w none ≡ w → firstWrong w (wrongHere 0 i) ≡ w
 unfolding wrongHere
 right-here w i tidy = tidy
 
@@ -189,7 +189,7 @@ module _ (ty : TextType) (s : List ℕ) (at : ℕ) (w : Wrong) where
 
 module _ (ty : TextType) (s : List ℕ) (at : ℕ) where
   pub opened : at < length s → byteAt s at ≡ 34 → Left ty s at (record { rule = 0; place = 0 }) (at + 1) true
-  unfolding textAt wrongAt firstOf none
+  unfolding textAt wrongAt firstWrong none
   opened l e =
       record {
         fuel = length s;

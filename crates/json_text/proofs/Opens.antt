@@ -2,8 +2,8 @@
 -- added here asks nothing of those above.
 use mathlib.Core.Bool.{Bool, true}
 use Rattle.json_chars.proofs.Opens.{open-chars}
-use Rattle.json_text.specs.Text.{textFrom, textAt, barred, whiteSpace, blanks, spacesOf, inRuns, isWhite, wrongSpace, outsideID, ruleOf, none, wrongHere, firstOf, closesAt, wrongFrom, wrongAt, textRead}
+use Rattle.json_text.specs.Text.{textFrom, textAt, barred, whiteSpace, blanks, spacesOf, inRuns, isWhite, wrongSpace, outsideID, ruleBroken, none, wrongHere, firstWrong, closesAt, wrongFrom, wrongAt, textRead}
 
 unfoldable pub open-text : Bool
-unfolding open-chars textFrom textAt barred whiteSpace blanks spacesOf inRuns isWhite wrongSpace outsideID ruleOf none wrongHere firstOf closesAt wrongFrom wrongAt textRead
+unfolding open-chars textFrom textAt barred whiteSpace blanks spacesOf inRuns isWhite wrongSpace outsideID ruleBroken none wrongHere firstWrong closesAt wrongFrom wrongAt textRead
 open-text = true

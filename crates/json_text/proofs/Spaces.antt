@@ -13,7 +13,7 @@ use lib.Seq.{drop-cons}
 use lib.Dec.{ltb, leb, eqb}
 use Rattle.json_bytes.specs.Reads.{within}
 use Rattle.json_bytes.proofs.Laws.{both-left, both-right, within-from, within-to}
-use Rattle.json_text.specs.Text.{barred, whiteSpace, blanks, spacesOf, inRuns, isWhite, wrongSpace, outsideID, ruleOf}
+use Rattle.json_text.specs.Text.{barred, whiteSpace, blanks, spacesOf, inRuns, isWhite, wrongSpace, outsideID, ruleBroken}
 use Rattle.json_text.specs.declared.TextType.{TextType}
 use Rattle.json_text.specs.declared.TextType.the-variants.{Text, String, StringID}
 
@@ -184,6 +184,6 @@ module _ (c : ℕ) (t : Bool) (told : t ≡ within 0x21 0x7E c) (yes : t ≡ tru
   not-outside String = refl
   not-outside StringID = rw (le-leb 0x20 c (omega (arith, from)), le-leb c 0x7E to)
 
-  pub graphic-right : (ty : TextType) (edge : Bool) → ruleOf ty c edge ≡ 0
-  unfolding ruleOf wrongSpace
+  pub graphic-right : (ty : TextType) (edge : Bool) → ruleBroken ty c edge ≡ 0
+  unfolding ruleBroken wrongSpace
   graphic-right ty edge = rw (not-barred, not-white ty, not-outside ty, before 0xD800 0xDFFF c (omega (arith, to)))

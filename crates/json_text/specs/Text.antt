@@ -80,8 +80,8 @@ outsideID StringID c = not (within 0x20 0x7E c)
 
 -- the rule that a character breaks: 1 barred control, 2 whitespace, 3 outside the ID set, 4 unpaired surrogate, 0 none;
 -- the lower number where it breaks two
-unfoldable pub ruleOf : TextType → ℕ → Bool → ℕ
-ruleOf ty c edge =
+unfoldable pub ruleBroken : TextType → ℕ → Bool → ℕ
+ruleBroken ty c edge =
     cond (barred c) 1 (cond (wrongSpace ty c edge) 2 (cond (outsideID ty c) 3 (cond (within 0xD800 0xDFFF c) 4 0)))
 
 -- ---- The first character that breaks a rule: which rule, and where the character stands as written; rule 0 for none
@@ -92,8 +92,8 @@ unfoldable pub wrongHere : ℕ → ℕ → Wrong
 wrongHere rule i = cond (ltb 0 rule) (record { rule = rule; place = i }) none
 
 -- the first where it is one, else the second
-unfoldable pub firstOf : Wrong → Wrong → Wrong
-firstOf w v = cond (ltb 0 (w .rule)) w v
+unfoldable pub firstWrong : Wrong → Wrong → Wrong
+firstWrong w v = cond (ltb 0 (w .rule)) w v
 
 -- a character stands at the end where the closing quote follows it
 unfoldable pub closesAt : List ℕ → ℕ → Bool
@@ -103,7 +103,7 @@ unfoldable pub wrongFrom : ℕ → TextType → List ℕ → ℕ → Bool → Wr
 wrongFrom zero ty s i edge = none
 wrongFrom (suc f) ty s i edge =
     elim (stepAt s i) [
-      | Char code next ↦ firstOf (wrongHere (ruleOf ty code (edge || closesAt s next)) i) (wrongFrom f ty s next (eqb code 32))
+      | Char code next ↦ firstWrong (wrongHere (ruleBroken ty code (edge || closesAt s next)) i) (wrongFrom f ty s next (eqb code 32))
       | Close ↦ none
       | Bad kind place ↦ none
     ]

@@ -2,7 +2,7 @@
 ghost use mathlib.Core.Path.{_≡_};
 ghost use mathlib.Core.Bool.{_||_};
 ghost use Rattle.json_text.specs.Run.{isGraphic, runEnd, plainEnd, edgeBehind};
-ghost use Rattle.json_text.specs.Text.{barred, whiteSpace, blanks, inRuns, isWhite, wrongSpace, outsideID, ruleOf, wrongHere, firstOf, closesAt, textRead};
+ghost use Rattle.json_text.specs.Text.{barred, whiteSpace, blanks, inRuns, isWhite, wrongSpace, outsideID, ruleBroken, wrongHere, firstWrong, closesAt, textRead};
 use json_bytes::Reading;
 use json_bytes::byte_at;
 use json_bytes::is_within;
@@ -124,7 +124,7 @@ fn is_outside(ty: TextType, c: u32) -> bool
 // The rule that a character breaks, 0 for none; at an edge no space may stand. Nearly all characters
 // are from U+0021 to U+007E, which break none, and are told first.
 fn rule_of(ty: TextType, c: u32, edge: bool) -> u32
-    ensures { λ r. ⌜ r ≡ ruleOf ty c edge ⌝ }
+    ensures { λ r. ⌜ r ≡ ruleBroken ty c edge ⌝ }
 {
     if is_within(0x21, 0x7E, c) {
         return 0;
@@ -157,7 +157,7 @@ fn is_edge(edge: bool, s: &[u8], next: usize) -> bool
 
 // The earlier wrong character, or else the one at i where it breaks a rule.
 fn first_of(earlier: Wrong, rule: u32, i: usize) -> Wrong
-    ensures { λ r. ⌜ r ≡ firstOf earlier (wrongHere rule i) ⌝ }
+    ensures { λ r. ⌜ r ≡ firstWrong earlier (wrongHere rule i) ⌝ }
 {
     if 0 < earlier.rule {
         return earlier;

@@ -20,7 +20,7 @@ use Rattle.number_search.specs.Search.{searched}
 use Rattle.rule_cells.specs.Cells.{Table, table, startOf, textOf}
 use Rattle.key_order.specs.Order.{andThen}
 use Rattle.key_lookup.specs.declared.Lookup.{Lookup}
-use Rattle.key_lookup.specs.Lookup.{hasTexts, firstParts, secondParts, secondOrder, standsBefore, placeOf, isFound}
+use Rattle.key_lookup.specs.Lookup.{hasTexts, firstParts, secondParts, secondOrder, standsBefore, keyPlace, isFound}
 
 -- ---- the second text
 module _ (b cells : List ℕ) (width : ℕ) (l : Lookup) (q : ℕ) where
@@ -71,8 +71,8 @@ module _ (s : List ℕ) (at : ℕ) (b cells : List ℕ) (width : ℕ) (l : Looku
 
 -- ---- the answer: with the place that was found, inside the list or at its end
 module _ (s : List ℕ) (at : ℕ) (u : Table) (l : Lookup) (sums order : List ℕ) (sum i : ℕ) (isSum : sum ≡ keySum s at) (isPlace : i ≡ searched (standsBefore u l sums sum (charsAt s at)) order) where
-  place-is : i ≡ placeOf u l sums order (charsAt s at)
-  unfolding placeOf keySum
+  place-is : i ≡ keyPlace u l sums order (charsAt s at)
+  unfolding keyPlace keySum
   place-is = isPlace ∙ rw isSum
 
   pub found-told : (x : Bool) → i < length order → x ≡ hasTexts u l (charsAt s at) (getD order i 0) → x ≡ isFound u l sums order (charsAt s at)

@@ -22,14 +22,14 @@ use Rattle.sorted_numbers.proofs.Laws.{Order}
 use Rattle.sorted_numbers.proofs.Members.{Stands}
 use Rattle.number_search.specs.Search.{frontOf, searched}
 use Rattle.number_search.proofs.Laws.{Falls, front-before, front-at, search-ordered}
-use Rattle.rule_cells.specs.Cells.{Table, textOf, firstOf}
+use Rattle.rule_cells.specs.Cells.{Table, textOf, firstThat}
 use Rattle.rule_cells.proofs.First.{First, first-found, first-none}
 use Rattle.key_order.specs.Order.{andThen, fieldParts, fieldOrder, keyOrder, numberOrder, recordOrder, precedes, fieldSum, sumsOf, inKeyOrder}
 use Rattle.key_order.proofs.Compared.{Comparison, by-parts, by-both, both-same, same-both, orders, each-way}
 use Rattle.key_order.proofs.Laws.{sum-at}
 use Rattle.key_order.proofs.Listed.{Listed, in-key-order-lists}
 use Rattle.key_lookup.specs.declared.Lookup.{Lookup}
-use Rattle.key_lookup.specs.Lookup.{keyOf, hasTexts, firstParts, secondParts, secondOrder, standsBefore, placeOf, isFound}
+use Rattle.key_lookup.specs.Lookup.{keyOf, hasTexts, firstParts, secondParts, secondOrder, standsBefore, keyPlace, isFound}
 
 -- ---- records in order, a test that those in front pass, and what a record may have
 pub record Reachable (le : ℕ → ℕ → Bool) (before has : ℕ → Bool) (n : ℕ) : Type 0 where
@@ -202,31 +202,31 @@ module _ (u : Table) (l : Lookup) (n : ℕ) (text : List ℕ) where
 
   -- ---- so it is found exactly if some record has it
   found-if : (q : ℕ) → q < n → hasTexts u l text q ≡ true → isFound u l sums (inKeyOrder u (keyOf l) n) text ≡ true
-  unfolding isFound placeOf
+  unfolding isFound keyPlace
   found-if q h e =
       let f : (searched (standsBefore u l sums sum text) (inKeyOrder u (keyOf l) n) < length (inKeyOrder u (keyOf l) n)) × (hasTexts u l text (getD (inKeyOrder u (keyOf l) n) (searched (standsBefore u l sums sum text) (inKeyOrder u (keyOf l) n)) 0) ≡ true) =
       found-there (precedes u (keyOf l) sums) (standsBefore u l sums sum text) (hasTexts u l text) n (inKeyOrder u (keyOf l) n) (in-key-order-lists u (keyOf l) n) reachable q h e
       in
       rw (lt-ltb _ _ (f .0)) (f .1)
 
-  only-if : isFound u l sums (inKeyOrder u (keyOf l) n) text ≡ true → firstOf (hasTexts u l text) n ≡ 0 → ⊥
+  only-if : isFound u l sums (inKeyOrder u (keyOf l) n) text ≡ true → firstThat (hasTexts u l text) n ≡ 0 → ⊥
   unfolding isFound
   only-if e z =
       let k : Listed (precedes u (keyOf l) sums) n (inKeyOrder u (keyOf l) n) = in-key-order-lists u (keyOf l) n in
-      let there = placeOf u l sums (inKeyOrder u (keyOf l) n) text in
+      let there = keyPlace u l sums (inKeyOrder u (keyOf l) n) text in
       let inside = ltb there (length (inKeyOrder u (keyOf l) n)) in
       let has = hasTexts u l text (getD (inKeyOrder u (keyOf l) n) there 0) in
       let h : there < length (inKeyOrder u (keyOf l) n) = ltb-true there (length (inKeyOrder u (keyOf l) n)) (both-left inside has e) in
       true≢false (sym (both-right inside has e) ∙ first-none (hasTexts u l text) n z (getD (inKeyOrder u (keyOf l) n) there 0) (k .inside there (omega (arith, k .long))))
 
-  pub found-exactly : isFound u l sums (inKeyOrder u (keyOf l) n) text ≡ ltb 0 (firstOf (hasTexts u l text) n)
-  found-exactly = go (firstOf (hasTexts u l text) n) refl
+  pub found-exactly : isFound u l sums (inKeyOrder u (keyOf l) n) text ≡ ltb 0 (firstThat (hasTexts u l text) n)
+  found-exactly = go (firstThat (hasTexts u l text) n) refl
     where
-      none : (b : Bool) → isFound u l sums (inKeyOrder u (keyOf l) n) text ≡ b → firstOf (hasTexts u l text) n ≡ 0 → b ≡ false
+      none : (b : Bool) → isFound u l sums (inKeyOrder u (keyOf l) n) text ≡ b → firstThat (hasTexts u l text) n ≡ 0 → b ≡ false
       none true e z = absurd (only-if e z)
       none false e z = refl
 
-      go : (k : ℕ) → firstOf (hasTexts u l text) n ≡ k → isFound u l sums (inKeyOrder u (keyOf l) n) text ≡ ltb 0 k
+      go : (k : ℕ) → firstThat (hasTexts u l text) n ≡ k → isFound u l sums (inKeyOrder u (keyOf l) n) text ≡ ltb 0 k
       go zero e = none (isFound u l sums (inKeyOrder u (keyOf l) n) text) refl e
       go (suc q) e =
           let f : First (hasTexts u l text) n 0 q = first-found (hasTexts u l text) n q e in

@@ -41,9 +41,9 @@ standsBefore u l sums sum text q =
     not (mayPrecede (andThen (orderOf (firstParts sum text) (firstParts (getD sums q 0) (textOf u q (l .m)))) (secondOrder u l q)))
 
 -- its place among the records in a list, and whether the record there has it
-unfoldable pub placeOf : Table → Lookup → List ℕ → List ℕ → List ℕ → ℕ
-placeOf u l sums order text = searched (standsBefore u l sums (sumOf (map (casedAs Folded) text)) text) order
+unfoldable pub keyPlace : Table → Lookup → List ℕ → List ℕ → List ℕ → ℕ
+keyPlace u l sums order text = searched (standsBefore u l sums (sumOf (map (casedAs Folded) text)) text) order
 
 unfoldable pub isFound : Table → Lookup → List ℕ → List ℕ → List ℕ → Bool
 isFound u l sums order text =
-    ltb (placeOf u l sums order text) (length order) && hasTexts u l text (getD order (placeOf u l sums order text) 0)
+    ltb (keyPlace u l sums order text) (length order) && hasTexts u l text (getD order (keyPlace u l sums order text) 0)

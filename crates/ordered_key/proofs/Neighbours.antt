@@ -11,7 +11,7 @@ use borrow.Author.Tests.{ltb-true, ltb-false}
 use lib.ListN.{length, getD}
 use lib.Dec.{ltb}
 use Rattle.sorted_numbers.proofs.Members.{Stands}
-use Rattle.rule_cells.specs.Cells.{firstOf}
+use Rattle.rule_cells.specs.Cells.{firstThat}
 use Rattle.rule_cells.proofs.First.{First, found-first, none-first}
 use Rattle.key_order.proofs.Listed.{Listed}
 use Rattle.ordered_key.specs.Repeat.{lesser, repeatOf, leastRepeat}
@@ -170,10 +170,10 @@ module _ (same le : ℕ → ℕ → Bool) (n : ℕ) (l : List ℕ) (s : SideBySi
             let u : UpTo (suc r) (leastRepeat same l) = least-below same l r (beside (w .0) r (w .1 .0) h (w .1 .1)) in
             absurd (no-less (u .1) (u .0))
 
-    pub first-is-least : firstOf breaks n ≡ leastRepeat same l
+    pub first-is-least : firstThat breaks n ≡ leastRepeat same l
     first-is-least = go (leastRepeat same l) refl
       where
-        go : (m : ℕ) → leastRepeat same l ≡ m → firstOf breaks n ≡ m
+        go : (m : ℕ) → leastRepeat same l ≡ m → firstThat breaks n ≡ m
         go zero e = none-first breaks n (λ r h. none-less r h (λ p q. omega arith))
         go (suc r) e =
             let b : Beside same l r = least-is same l r e in

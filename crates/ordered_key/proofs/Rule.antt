@@ -11,7 +11,7 @@ use Rattle.text_order.specs.Order.{orderOf, mayPrecede}
 use Rattle.text_order.specs.declared.Compared.{Compared}
 use Rattle.text_order.specs.declared.Compared.the-variants.{Less, Same, More}
 use Rattle.text_order.proofs.Laws.{by-less, lists-same}
-use Rattle.rule_cells.specs.Cells.{Table, table, textOf, sameText, integerIn, dateIn, firstFrom, firstOf}
+use Rattle.rule_cells.specs.Cells.{Table, table, textOf, sameText, integerIn, dateIn, firstFrom, firstThat}
 use Rattle.rule_cells.proofs.First.{First, first-found}
 use Rattle.rule_key.specs.declared.Key.{Key}
 use Rattle.rule_key.specs.declared.KeyBreak.{KeyBreak}
@@ -89,14 +89,14 @@ module _ (t : Table) (key : Key) where
         let f : First (λ (x : ℕ). sameKey t key x r) r 0 (earliest t key r - 1) = first-found (λ (x : ℕ). sameKey t key x r) r (earliest t key r - 1) (omega arith) in
         (earliest t key r - 1, (omega (arith, f .inside), f .here))
 
-    pub least-repeat-first : firstOf (repeats t key) n ≡ leastRepeat (sameKey t key) (inKeyOrder t key n)
+    pub least-repeat-first : firstThat (repeats t key) n ≡ leastRepeat (sameKey t key) (inKeyOrder t key n)
     least-repeat-first =
         first-is-least (sameKey t key) (precedes t key (sumsOf t (key .a) n)) n (inKeyOrder t key n) side-by-side (in-key-order-lists t key n) (repeats t key) repeats-if repeats-only
 
 -- ---- the answer, by what the walk found
 module _ (t : Table) (key : Key) (first least : ℕ) (is : first ≡ least) where
   pub none-breaks : first ≡ 0 → record { «record» = 0; same = 0 } ≡ breakAt t key least
-  unfolding breakAt earliest firstOf firstFrom
+  unfolding breakAt earliest firstThat firstFrom
   none-breaks e = rw (← is, e)
 
   pub one-breaks : (e : ℕ) → e ≡ earliest t key (first - 1) → record { «record» = first; same = e } ≡ breakAt t key least

@@ -11,7 +11,7 @@ use lib.Dec.{ltb, eqb}
 use Rattle.json_same.specs.Same.{sameAs}
 use Rattle.json_same.specs.declared.Case.the-variants.{Folded}
 use Rattle.json_same.proofs.Laws.{same-sym, same-trans}
-use Rattle.rule_cells.specs.Cells.{Table, table, startOf, textOf, sameText, isWord, firstFrom, firstOf}
+use Rattle.rule_cells.specs.Cells.{Table, table, startOf, textOf, sameText, isWord, firstFrom, firstThat}
 use Rattle.rule_cells.proofs.First.{First, first-found}
 use Rattle.rule_key.specs.declared.Key.{Key}
 use Rattle.rule_key.proofs.Laws.{both-ways}
@@ -46,7 +46,7 @@ module _ (b cells : List ℕ) (width id type : ℕ) (word : List ℕ) (q : ℕ) 
   found-typed : (n : ℕ) (t : Table) (p task : ℕ) → isFound (table b cells width 0) l (sumsOf (table b cells width 0) id n) (inKeyOrder (table b cells width 0) (keyOf l) n) (textOf t p task) ≡ someOf (isTyped t p task (table b cells width 0) id type word) n
   unfolding someOf
   found-typed n t p task =
-      found-exactly (table b cells width 0) l n (textOf t p task) ∙ ap (λ (f : ℕ → Bool). ltb 0 (firstOf f n)) (fun-ext (has-typed t p task))
+      found-exactly (table b cells width 0) l n (textOf t p task) ∙ ap (λ (f : ℕ → Bool). ltb 0 (firstThat f n)) (fun-ext (has-typed t p task))
 
   module _ (t : Table) (n level task : ℕ) (parents : ℕ → ℕ) where
     breaks-same : (r : ℕ) → typeBreaksLookup t level task parents (table b cells width 0) l (sumsOf (table b cells width 0) id n) (inKeyOrder (table b cells width 0) (keyOf l) n) r ≡ parentTypeBreaks t level task parents (table b cells width n) id type word r
@@ -62,19 +62,19 @@ module _ (s cells : List ℕ) (width n level task : ℕ) (parents : ℕ → ℕ)
   abbrev u : Table
   u = table u-bytes u-cells u-width 0
 
-  the-typed : (typed : ℕ) → typed ≡ firstOf (λ (q : ℕ). isWord u q type word) u-n → (typed ≡ 0 → ⊥) → isWord u (typed - 1) type word ≡ true
+  the-typed : (typed : ℕ) → typed ≡ firstThat (λ (q : ℕ). isWord u q type word) u-n → (typed ≡ 0 → ⊥) → isWord u (typed - 1) type word ≡ true
   the-typed typed e h =
       let f : First (λ (q : ℕ). isWord u q type word) u-n 0 (typed - 1) = first-found (λ (q : ℕ). isWord u q type word) u-n (typed - 1) (sym e ∙ omega arith) in
       f .here
 
-  answers : (lookup : ℕ → Bool) (x : Outline) → ((r : ℕ) → lookup r ≡ parentTypeBreaks (table s cells width 0) level task parents (table u-bytes u-cells u-width u-n) id type word r) → x ≡ outlineAt (table s cells width 0) level parents (firstOf lookup n) → x ≡ parentTypeRule (table s cells width n) level task parents (table u-bytes u-cells u-width u-n) id type word
-  unfolding firstOf
+  answers : (lookup : ℕ → Bool) (x : Outline) → ((r : ℕ) → lookup r ≡ parentTypeBreaks (table s cells width 0) level task parents (table u-bytes u-cells u-width u-n) id type word r) → x ≡ outlineAt (table s cells width 0) level parents (firstThat lookup n) → x ≡ parentTypeRule (table s cells width n) level task parents (table u-bytes u-cells u-width u-n) id type word
+  unfolding firstThat
   answers lookup x same e =
       e ∙ ap (λ (f : ℕ → Bool). outlineAt (table s cells width 0) level parents (firstFrom f n 0)) (fun-ext same)
       ∙ ap (λ (k : ℕ). outlineAt (table s cells width 0) level parents (firstFrom (parentTypeBreaks (table s cells width 0) level task parents (table u-bytes u-cells u-width u-n) id type word) k 0)) (sym (sub-zero n))
       ∙ sym (parent-type-rule-starts s cells width n level task parents (table u-bytes u-cells u-width u-n) id type word)
 
-  pub filled-gives-rule : (key : Key) (sums order scratch sums′ order′ : List ℕ) (fit : Bool) (x : Outline) (typed also : ℕ) → typed ≡ firstOf (λ (q : ℕ). isWord u q type word) u-n → (typed ≡ 0 → ⊥) → also ≡ startOf u-cells u-width (typed - 1) type → key ≡ keyOf (typedAt id type also) → length order ≡ u-n → fit ≡ areFit sums order scratch → fit ≡ true → sums′ ≡ sumsAfter u key sums order scratch → order′ ≡ orderAfter u key sums order scratch → x ≡ outlineAt (table s cells width 0) level parents (firstOf (typeBreaksLookup (table s cells width 0) level task parents u (typedAt id type also) sums′ order′) n) → x ≡ parentTypeRule (table s cells width n) level task parents (table u-bytes u-cells u-width u-n) id type word
+  pub filled-gives-rule : (key : Key) (sums order scratch sums′ order′ : List ℕ) (fit : Bool) (x : Outline) (typed also : ℕ) → typed ≡ firstThat (λ (q : ℕ). isWord u q type word) u-n → (typed ≡ 0 → ⊥) → also ≡ startOf u-cells u-width (typed - 1) type → key ≡ keyOf (typedAt id type also) → length order ≡ u-n → fit ≡ areFit sums order scratch → fit ≡ true → sums′ ≡ sumsAfter u key sums order scratch → order′ ≡ orderAfter u key sums order scratch → x ≡ outlineAt (table s cells width 0) level parents (firstThat (typeBreaksLookup (table s cells width 0) level task parents u (typedAt id type also) sums′ order′) n) → x ≡ parentTypeRule (table s cells width n) level task parents (table u-bytes u-cells u-width u-n) id type word
   filled-gives-rule key sums order scratch sums′ order′ fit x typed also first some place c h f e g i j =
       let a : sums′ ≡ sumsOf u id u-n = g ∙ fit-sums sums order scratch u key (sym f ∙ e) ∙ rw (c, h) in
       let o : order′ ≡ inKeyOrder u (keyOf (typedAt id type (startOf u-cells u-width (typed - 1) type))) u-n = i ∙ fit-order sums order scratch u key (sym f ∙ e) ∙ rw (c, h) in

@@ -2,7 +2,7 @@
 // that one lookup tells whether some task has both.
 ghost use mathlib.Core.Path.{_≡_};
 ghost use Prim.Native.Nat.{ℕ};
-ghost use Rattle.rule_cells.specs.Cells.{table, isWord, firstOf};
+ghost use Rattle.rule_cells.specs.Cells.{table, isWord, firstThat};
 ghost use Rattle.rule_outline.specs.Outline.{heldIn, outlineAt, parentTypeRule};
 ghost use Rattle.ordered_outline.specs.Typed.{typeBreaksLookup};
 use key_lookup::Lookup;
@@ -25,7 +25,7 @@ fn first_with(
     field: usize,
     word: &[u8],
 ) -> usize
-    ensures { λ x. ⌜ x ≡ firstOf (λ (q : ℕ). isWord (table (now (u .entry)) (now (cells .entry)) width 0) q field (now (word .entry))) records ⌝ }
+    ensures { λ x. ⌜ x ≡ firstThat (λ (q : ℕ). isWord (table (now (u .entry)) (now (cells .entry)) width 0) q field (now (word .entry))) records ⌝ }
 {
     let mut q = 0;
     while q < records {
@@ -79,7 +79,7 @@ fn first_breaking(
     sums: &[u32],
     order: &[u32],
 ) -> Outline
-    ensures { λ x. ⌜ x ≡ outlineAt (table (now (s .entry)) (now (cells .entry)) width 0) level (heldIn (now (parents .entry))) (firstOf (typeBreaksLookup (table (now (s .entry)) (now (cells .entry)) width 0) level task (heldIn (now (parents .entry))) (table (now (u .entry)) (now («u_cells» .entry)) «u_width» 0) l (now (sums .entry)) (now (order .entry))) records) ⌝ }
+    ensures { λ x. ⌜ x ≡ outlineAt (table (now (s .entry)) (now (cells .entry)) width 0) level (heldIn (now (parents .entry))) (firstThat (typeBreaksLookup (table (now (s .entry)) (now (cells .entry)) width 0) level task (heldIn (now (parents .entry))) (table (now (u .entry)) (now («u_cells» .entry)) «u_width» 0) l (now (sums .entry)) (now (order .entry))) records) ⌝ }
 {
     let mut r = 0;
     while r < records {

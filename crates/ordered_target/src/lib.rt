@@ -1,7 +1,7 @@
 // A value that some record of another table must have too, looked up in an order of that table's
 // records.
 ghost use mathlib.Core.Path.{_≡_};
-ghost use Rattle.rule_cells.specs.Cells.{table, firstOf};
+ghost use Rattle.rule_cells.specs.Cells.{table, firstThat};
 ghost use Rattle.rule_target.specs.Target.{targetRule};
 ghost use Rattle.ordered_target.specs.Found.{breaksLookup};
 use key_lookup::Lookup;
@@ -60,7 +60,7 @@ fn first_unfound(
     places: &[u32],
     texts: &[u8],
 ) -> usize
-    ensures { λ x. ⌜ x ≡ firstOf (breaksLookup (table (now (s .entry)) (now (cells .entry)) width 0) (t .k) (t .when) (table (now (u .entry)) (now («u_cells» .entry)) «u_width» 0) l (now (sums .entry)) (now (order .entry)) (now (places .entry)) (now (texts .entry))) records ⌝ }
+    ensures { λ x. ⌜ x ≡ firstThat (breaksLookup (table (now (s .entry)) (now (cells .entry)) width 0) (t .k) (t .when) (table (now (u .entry)) (now («u_cells» .entry)) «u_width» 0) l (now (sums .entry)) (now (order .entry)) (now (places .entry)) (now (texts .entry))) records ⌝ }
 {
     let mut r = 0;
     while r < records {

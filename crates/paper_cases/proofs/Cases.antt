@@ -7,8 +7,8 @@ use Rattle.rules.proofs.Opens.{open-rules}
 use Rattle.schedule_rules.proofs.Opens.{open-rows}
 use Rattle.gate_marks.specs.Gate.{gateOf, marksOf, markReads}
 use Rattle.schedule.specs.Schedule.{due, free, expectedFiles, schedule}
-use Rattle.paper_cases.specs.Cases.{Case, reading, fileMark, tableIn, ruleMark, natural, ordinalIn, parentsIn, marksFrom, touched, comingBack, quoted, recordsOf, arrayOf, withID, withName, withComments, withOrdinal, withHours, withDate, withLevel, cases}
+use Rattle.paper_cases.specs.Cases.{Case, reading, paperFileMark, paperTable, paperRuleMark, natural, ordinalIn, parentsIn, paperMarks, paperTouched, comingBack, quoted, recordsText, arrayText, withID, withName, withComments, withOrdinal, withHours, withDate, withLevel, cases}
 
 pub paper-cases : map (λ (c : Case). c .answered) cases ≡ map (λ (c : Case). c .stated) cases
-unfolding open-files open-rules open-rows gateOf marksOf markReads due free expectedFiles schedule reading fileMark tableIn ruleMark natural ordinalIn parentsIn marksFrom touched comingBack quoted recordsOf arrayOf withID withName withComments withOrdinal withHours withDate withLevel cases
+unfolding open-files open-rules open-rows gateOf marksOf markReads due free expectedFiles schedule reading paperFileMark paperTable paperRuleMark natural ordinalIn parentsIn paperMarks paperTouched comingBack quoted recordsText arrayText withID withName withComments withOrdinal withHours withDate withLevel cases
 paper-cases = refl

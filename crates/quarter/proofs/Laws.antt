@@ -12,7 +12,7 @@ use lib.IntN.{ℤ, pos, _+ℤ_, natAbs, +ℤ-idl}
 use Rattle.exact_sums.specs.Sums.{sumTo, wholes, wholeAt}
 use Rattle.exact_sums.proofs.Signed.{sum-within}
 use Rattle.exact_sums.proofs.Lists.{whole-at, wholes-same}
-use Rattle.rule_cells.specs.Cells.{firstOf}
+use Rattle.rule_cells.specs.Cells.{firstThat}
 use Rattle.rule_cells.proofs.First.{first-none, none-first}
 use Rattle.element_sums.specs.declared.Sums.{Sums}
 use Rattle.set_sums.specs.Set.{setSums, isCounted, setAdds, setSumsIn}
@@ -46,12 +46,12 @@ module _ (q : Quarter) (not-refused : isRefused q ≡ false) where
 
   pub few-sets : q .sets < 256
   unfolding isRefused
-  few-sets = leb-false 256 (q .sets) (or-first (leb 256 (q .sets)) (ltb 0 (firstOf (isBeyond q) 24)) not-refused)
+  few-sets = leb-false 256 (q .sets) (or-first (leb 256 (q .sets)) (ltb 0 (firstThat (isBeyond q) 24)) not-refused)
 
   pub totals-near : (i : ℕ) → i < 24 → natAbs (wholeAt (q .totals) i) ≤ 4096000000000000 * q .sets
   unfolding isRefused isBeyond
   totals-near i l =
-      let none : firstOf (isBeyond q) 24 ≡ 0 = omega (arith, ltb-false 0 (firstOf (isBeyond q) 24) (or-second (leb 256 (q .sets)) (ltb 0 (firstOf (isBeyond q) 24)) not-refused)) in
+      let none : firstThat (isBeyond q) 24 ≡ 0 = omega (arith, ltb-false 0 (firstThat (isBeyond q) 24) (or-second (leb 256 (q .sets)) (ltb 0 (firstThat (isBeyond q) 24)) not-refused)) in
       ltb-false (limitOf (q .sets)) (natAbs (wholeAt (q .totals) i)) (first-none (isBeyond q) 24 none i l)
 
 pub not-refused : (q : Quarter) → q .sets < 256 → ((i : ℕ) → i < 24 → natAbs (wholeAt (q .totals) i) ≤ 4096000000000000 * q .sets) → isRefused q ≡ false

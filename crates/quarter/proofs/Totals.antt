@@ -16,7 +16,7 @@ use mir.Val.{SFits, toZ, ofZ}
 use mir.Facts.{toZ-ofZ}
 use lib.Signed.{ltZ}
 use Rattle.exact_sums.proofs.Signed.{sum-within, held-near, cast-read, below-read}
-use Rattle.rule_cells.specs.Cells.{firstFrom, firstOf}
+use Rattle.rule_cells.specs.Cells.{firstFrom, firstThat}
 use Rattle.rule_cells.proofs.Laws.{search-hits, search-ends}
 use Rattle.quarter.specs.Quarter.{trues}
 use Rattle.quarter.specs.Code.{farFrom}
@@ -42,12 +42,12 @@ far-below zero (negsuc n) e = sym (lt-ltb 0 (suc n) (omega arith))
 far-below (suc m) (negsuc n) e = ltb-both m n
 
 -- ---- the first total that is
-module _ (breaks : ℕ → Bool) (n i : ℕ) (inv : firstOf breaks n ≡ firstFrom breaks (n - i) i) where
-  pub some-breaks : i < n → breaks i ≡ true → true ≡ ltb 0 (firstOf breaks n)
-  some-breaks l h = sym (lt-ltb 0 (firstOf breaks n) (omega (arith, inv ∙ search-hits breaks n i l h)))
+module _ (breaks : ℕ → Bool) (n i : ℕ) (inv : firstThat breaks n ≡ firstFrom breaks (n - i) i) where
+  pub some-breaks : i < n → breaks i ≡ true → true ≡ ltb 0 (firstThat breaks n)
+  some-breaks l h = sym (lt-ltb 0 (firstThat breaks n) (omega (arith, inv ∙ search-hits breaks n i l h)))
 
-  pub none-breaks : n ≤ i → false ≡ ltb 0 (firstOf breaks n)
-  none-breaks l = sym (le-ltb 0 (firstOf breaks n) (omega (arith, inv ∙ search-ends breaks n i l)))
+  pub none-breaks : n ≤ i → false ≡ ltb 0 (firstThat breaks n)
+  none-breaks l = sym (le-ltb 0 (firstThat breaks n) (omega (arith, inv ∙ search-ends breaks n i l)))
 
 -- ---- flags, one more
 trues-append : (a b : List Bool) → trues (a ++ b) ≡ trues a + trues b

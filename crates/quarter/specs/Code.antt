@@ -6,7 +6,7 @@ use lib.ListN.{set}
 use lib.Dec.{ltb}
 use lib.IntN.{ℤ, pos, _+ℤ_, natAbs}
 use Rattle.exact_sums.specs.Sums.{wholes, wholeAt}
-use Rattle.rule_cells.specs.Cells.{firstOf}
+use Rattle.rule_cells.specs.Cells.{firstThat}
 use Rattle.element_sums.specs.declared.Sums.{Sums}
 use Rattle.quarter.specs.declared.Quarter.{Quarter}
 
@@ -14,7 +14,7 @@ unfoldable pub farFrom : ℕ → ℤ → Bool
 farFrom limit x = ltb limit (natAbs x)
 
 unfoldable pub someFar : ℕ → List ℤ → Bool
-someFar limit totals = ltb 0 (firstOf (λ (i : ℕ). farFrom limit (wholeAt totals i)) 24)
+someFar limit totals = ltb 0 (firstThat (λ (i : ℕ). farFrom limit (wholeAt totals i)) 24)
 
 unfoldable pub totalsWith : List ℤ → List ℤ → List ℤ
 totalsWith totals sums = wholes (λ i. wholeAt totals i +ℤ wholeAt sums i) 24

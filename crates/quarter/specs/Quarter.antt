@@ -7,7 +7,7 @@ use lib.ListN.{length, take, set, replicate}
 use lib.Dec.{ltb, leb, eqb}
 use lib.IntN.{ℤ, pos, _+ℤ_, natAbs}
 use Rattle.exact_sums.specs.Sums.{sumTo, wholes, wholeAt}
-use Rattle.rule_cells.specs.Cells.{firstOf}
+use Rattle.rule_cells.specs.Cells.{firstThat}
 use Rattle.set_sums.specs.Set.{isCounted, setAdds}
 use Rattle.set_sums.specs.Work.{sumsLeft}
 use Rattle.quarter.specs.declared.Quarter.{Quarter}
@@ -26,7 +26,7 @@ unfoldable pub isBeyond : Quarter → ℕ → Bool
 isBeyond q i = ltb (limitOf (q .sets)) (natAbs (wholeAt (q .totals) i))
 
 unfoldable pub isRefused : Quarter → Bool
-isRefused q = leb 256 (q .sets) || ltb 0 (firstOf (isBeyond q) 24)
+isRefused q = leb 256 (q .sets) || ltb 0 (firstThat (isBeyond q) 24)
 
 -- ---- A set taken: it adds what it has, "counted as such and its place in the run listed" where it is left out; "it counts
 -- towards the 256"

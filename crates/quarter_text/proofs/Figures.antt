@@ -14,7 +14,7 @@ use mir.Syntax.{w64}
 use mir.Val.{SFits, toZ, ofZ}
 use mir.Facts.{toZ-ofZ}
 use Rattle.exact_sums.specs.Sums.{wholeAt}
-use Rattle.table_rows.specs.Ascii.{codes}
+use Rattle.json_bytes.specs.Ascii.{codes}
 use Rattle.output.specs.Decimal.{decimal}
 use Rattle.output.specs.Output.{Output, outputAt, put}
 use Rattle.output.proofs.Digits.{decimal-length}

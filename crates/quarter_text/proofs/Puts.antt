@@ -9,13 +9,13 @@ use mir.Syntax.{w64}
 use mir.Val.{SFits, toZ, ofZ}
 use mir.Facts.{toZ-ofZ}
 use Rattle.exact_sums.specs.Sums.{wholeAt}
-use Rattle.table_rows.specs.Ascii.{codes}
+use Rattle.json_bytes.specs.Ascii.{codes}
 use Rattle.bundle_bytes.specs.Pieces.{joined}
 use Rattle.bundle_bytes.proofs.Laws.{joined-next}
 use Rattle.output.specs.Output.{Output, put}
 use Rattle.output.proofs.Puts.{put-then}
 use Rattle.quarter_text.specs.Figure.{figure}
-use Rattle.quarter_text.specs.Table.{spaces, cell, cellAt, cells, line, lines, columnNames, commaText, larger, longest, width, pair, heading, headings, tableText}
+use Rattle.quarter_text.specs.Table.{spaces, cell, cellText, cells, tableLine, lines, columnNames, commaText, larger, longest, width, pair, heading, headings, tableText}
 
 -- ---- spaces
 module _ (o : Output) where
@@ -46,22 +46,22 @@ module _ (o : Output) where
     cells-start = refl
 
     pub cells-next : (c : ℕ) {x : ℤ} {p q : Output} → SFits w64 x → x ≡ wholeAt list (from + c) → p ≡ put o (cells between wide list from c) → q ≡ put p (cell between wide (figure (toZ w64 (ofZ w64 x)))) → q ≡ put o (cells between wide list from (c + 1))
-    unfolding cells cellAt
+    unfolding cells cellText
     cells-next c held at e h =
-        rw (joined-next (cellAt between wide list from) c)
-        (put-then o (joined (cellAt between wide list from) c) (cellAt between wide list from c) e (rw (toZ-ofZ held, at) at h))
+        rw (joined-next (cellText between wide list from) c)
+        (put-then o (joined (cellText between wide list from) c) (cellText between wide list from c) e (rw (toZ-ofZ held, at) at h))
 
     pub cells-end : (c n : ℕ) {p : Output} → c ≡ n → p ≡ put o (cells between wide list from c) → p ≡ put o (cells between wide list from n)
     cells-end c n e h = h ∙ ap (λ k. put o (cells between wide list from k)) e
 
-    pub line-put : (names : ℕ) (name : List ℕ) {k : ℕ} {p q r s : Output} → k ≡ names - length name → p ≡ put o name → q ≡ put p (spaces k) → r ≡ put q (cells between wide list from 6) → s ≡ put r (10 ∷ []) → s ≡ put o (line names between wide name list from)
-    unfolding line codes
+    pub line-put : (names : ℕ) (name : List ℕ) {k : ℕ} {p q r s : Output} → k ≡ names - length name → p ≡ put o name → q ≡ put p (spaces k) → r ≡ put q (cells between wide list from 6) → s ≡ put r (10 ∷ []) → s ≡ put o (tableLine names between wide name list from)
+    unfolding tableLine codes
     line-put names name n e f g h =
         put-then o _ _ (put-then o _ _ (put-then o name _ e (rw n at f)) g) h
 
   -- ---- all lines
   module _ (names : ℕ) (between : List ℕ) (wide : ℕ) (totals grand : List ℤ) where
-    pub lines-put : {p q r s t : Output} → p ≡ put o (line names between wide (codes "LABOR") totals 0) → q ≡ put p (line names between wide (codes "MATERIAL") totals 6) → r ≡ put q (line names between wide (codes "OTHER_DIRECT_COSTS") totals 12) → s ≡ put r (line names between wide (codes "SUBCONTRACT") totals 18) → t ≡ put s (line names between wide (codes "all") grand 0) → t ≡ put o (lines names between wide totals grand)
+    pub lines-put : {p q r s t : Output} → p ≡ put o (tableLine names between wide (codes "LABOR") totals 0) → q ≡ put p (tableLine names between wide (codes "MATERIAL") totals 6) → r ≡ put q (tableLine names between wide (codes "OTHER_DIRECT_COSTS") totals 12) → s ≡ put r (tableLine names between wide (codes "SUBCONTRACT") totals 18) → t ≡ put s (tableLine names between wide (codes "all") grand 0) → t ≡ put o (lines names between wide totals grand)
     unfolding lines
     lines-put e f g h k = put-then o _ _ (put-then o _ _ (put-then o _ _ (put-then o _ _ e f) g) h) k
 

@@ -8,7 +8,7 @@ use lib.ListN.{length, replicate}
 use lib.Dec.{ltb}
 use lib.IntN.{ℤ}
 use Rattle.exact_sums.specs.Sums.{wholeAt}
-use Rattle.table_rows.specs.Ascii.{codes}
+use Rattle.json_bytes.specs.Ascii.{codes}
 use Rattle.bundle_bytes.specs.Pieces.{joined}
 use Rattle.quarter_text.specs.Figure.{figure}
 
@@ -21,24 +21,24 @@ unfoldable pub cell : List ℕ → ℕ → List ℕ → List ℕ
 cell between wide text = between ++ spaces (wide - length text) ++ text
 
 -- the figures of a line: six from a place of a list on
-unfoldable pub cellAt : List ℕ → ℕ → List ℤ → ℕ → ℕ → List ℕ
-cellAt between wide list from c = cell between wide (figure (wholeAt list (from + c)))
+unfoldable pub cellText : List ℕ → ℕ → List ℤ → ℕ → ℕ → List ℕ
+cellText between wide list from c = cell between wide (figure (wholeAt list (from + c)))
 
 unfoldable pub cells : List ℕ → ℕ → List ℤ → ℕ → ℕ → List ℕ
-cells between wide list from n = joined (cellAt between wide list from) n
+cells between wide list from n = joined (cellText between wide list from) n
 
 -- behind a name, to the left of so many places
-unfoldable pub line : ℕ → List ℕ → ℕ → List ℕ → List ℤ → ℕ → List ℕ
-line names between wide name list from =
+unfoldable pub tableLine : ℕ → List ℕ → ℕ → List ℕ → List ℤ → ℕ → List ℕ
+tableLine names between wide name list from =
     name ++ spaces (names - length name) ++ cells between wide list from 6 ++ codes "\n"
 
 unfoldable pub lines : ℕ → List ℕ → ℕ → List ℤ → List ℤ → List ℕ
 lines names between wide totals grand =
-    line names between wide (codes "LABOR") totals 0 ++
-    line names between wide (codes "MATERIAL") totals 6 ++
-    line names between wide (codes "OTHER_DIRECT_COSTS") totals 12 ++
-    line names between wide (codes "SUBCONTRACT") totals 18 ++
-    line names between wide (codes "all") grand 0
+    tableLine names between wide (codes "LABOR") totals 0 ++
+    tableLine names between wide (codes "MATERIAL") totals 6 ++
+    tableLine names between wide (codes "OTHER_DIRECT_COSTS") totals 12 ++
+    tableLine names between wide (codes "SUBCONTRACT") totals 18 ++
+    tableLine names between wide (codes "all") grand 0
 
 -- ---- Comma-separated values
 unfoldable pub columnNames : List ℕ

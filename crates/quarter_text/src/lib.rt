@@ -6,7 +6,7 @@ ghost use lib.ListN.{length};
 ghost use Rattle.exact_sums.specs.Sums.{wholeAt};
 ghost use Rattle.output.specs.Output.{outputAt, put};
 ghost use Rattle.quarter_text.specs.Figure.{lastFour, sizeText, figure};
-ghost use Rattle.quarter_text.specs.Table.{spaces, cell, cells, line, lines, commaText, larger, longest, width, pair, heading, headings, tableText};
+ghost use Rattle.quarter_text.specs.Table.{spaces, cell, cells, tableLine, lines, commaText, larger, longest, width, pair, heading, headings, tableText};
 use output::put_byte;
 use output::put_digit;
 use output::put_number;
@@ -124,7 +124,7 @@ fn put_line(
     from: usize,
 ) -> usize
     requires { ⌜ from ≤ 18 ⌝ }
-    ensures { λ r. ⌜ outputAt (now (out .exit)) r ≡ put (outputAt (now (out .entry)) at) (line names (now (between .entry)) wide (now (name .entry)) (now (list .entry)) from) ⌝ }
+    ensures { λ r. ⌜ outputAt (now (out .exit)) r ≡ put (outputAt (now (out .entry)) at) (tableLine names (now (between .entry)) wide (now (name .entry)) (now (list .entry)) from) ⌝ }
 {
     let behind = put_text(out, at, name);
     let start = put_spaces(out, behind, beside(names, name.len()));

@@ -14,7 +14,7 @@ use Rattle.mark_numbers.specs.declared.Mark.{Mark}
 use Rattle.table_rows.specs.Rows.{cellAt}
 use Rattle.rule_cells.specs.Cells.{Table, table, cellOf, startOf, isGiven}
 use Rattle.rule_shape.specs.declared.Rule.{Rule}
-use Rattle.rule_shape.specs.Rule.{firstOf, secondOf}
+use Rattle.rule_shape.specs.Rule.{firstFileOf, secondFileOf}
 use Rattle.rule_reason.specs.declared.Searched.{Searched}
 use Rattle.rule_reason.specs.declared.Searched.the-variants.{In, Nowhere}
 use Rattle.rule_reason.specs.Reason.{decidingField, searchedIn}
@@ -73,14 +73,14 @@ module _ (cells : List ℕ) (width r k : ℕ) where
 
 -- ---- what is shown of a broken rule
 module _ (rule : Rule) (x : Mark) (offset : ℕ) (s cells : List ℕ) (width : ℕ) where
-  pub shown-is : {r field start length file : ℕ} → r ≡ x .place - 1 → field ≡ decidingField rule (table s cells width 0) r → start ≡ valueStart offset cells width r field → length ≡ valueLength cells width r field → file ≡ firstOf rule
+  pub shown-is : {r field start length file : ℕ} → r ≡ x .place - 1 → field ≡ decidingField rule (table s cells width 0) r → start ≡ valueStart offset cells width r field → length ≡ valueLength cells width r field → file ≡ firstFileOf rule
       → shownAt file (x .place) (x .companion) field start length ≡ shownOf rule offset (table s cells width 0) x
   unfolding shownOf
   shown-is r-is field-is start-is length-is file-is = rw (start-is, length-is, field-is, r-is, file-is)
 
 module _ (forms fields work : List ℕ) (files : ℕ → File) (starts : ℕ → ℕ) (rule : Rule) (x : Mark) where
-  pub shown-found : {file offset width : ℕ} {s cells : List ℕ} {shown : Shown} → file ≡ firstOf rule → offset ≡ starts file → s ≡ bytesOf (files file) → cells ≡ cond (ltb file 32) (cellsIn (expectedIn forms fields [] []) work file) [] → width ≡ 2 * countIn forms fields file
-      → shown ≡ shownOf rule offset (table s cells width 0) x → shown ≡ shownOf rule (starts (firstOf rule)) (tableFound forms fields files work (firstOf rule)) x
+  pub shown-found : {file offset width : ℕ} {s cells : List ℕ} {shown : Shown} → file ≡ firstFileOf rule → offset ≡ starts file → s ≡ bytesOf (files file) → cells ≡ cond (ltb file 32) (cellsIn (expectedIn forms fields [] []) work file) [] → width ≡ 2 * countIn forms fields file
+      → shown ≡ shownOf rule offset (table s cells width 0) x → shown ≡ shownOf rule (starts (firstFileOf rule)) (tableFound forms fields files work (firstFileOf rule)) x
   unfolding tableFound
   shown-found file-is offset-is s-is cells-are width-is is = is ∙ rw (offset-is, s-is, cells-are, width-is, file-is)
 
@@ -112,7 +112,7 @@ module _ (readable : ℕ → Bool) (low high : ℕ) {t : Bool} (t-is : t ≡ rea
   unfolding lowestOf
   lowest-unread e = rw (← t-is, e)
 
-module _ (n : ℕ) (kinds : List ℕ) (rule : Rule) {first second : ℕ} (first-is : first ≡ firstOf rule) (second-is : second ≡ secondOf rule) {file : ℕ} where
+module _ (n : ℕ) (kinds : List ℕ) (rule : Rule) {first second : ℕ} (first-is : first ≡ firstFileOf rule) (second-is : second ≡ secondFileOf rule) {file : ℕ} where
   pub unread-turned : second < first → file ≡ lowestOf (isReadable n (kindsIn kinds)) second first → file ≡ unreadOf n (kindsIn kinds) rule
   unfolding unreadOf
   unread-turned l e = rw (← first-is, ← second-is, lt-ltb second first l) e

@@ -16,7 +16,7 @@ use Rattle.mark_numbers.specs.declared.Mark.{Mark}
 use Rattle.mark_numbers.specs.Marks.{markIn, holds, notJudged}
 use Rattle.mark_numbers.proofs.Laws.{mark-equal, mark-of-marks}
 use Rattle.rule_shape.specs.declared.Rule.{Rule}
-use Rattle.rule_shape.specs.Rule.{firstOf, secondOf, reads}
+use Rattle.rule_shape.specs.Rule.{firstFileOf, secondFileOf, reads}
 use Rattle.rules.specs.declared.Break.{Break}
 use Rattle.rules.specs.Judge.{isJudged, markOf}
 use Rattle.rule_reason.specs.declared.Searched.{Searched}
@@ -25,7 +25,7 @@ use Rattle.rule_reason.specs.Reason.{searchedIn}
 use Rattle.reason_answer.specs.declared.Shown.{Shown}
 use Rattle.reason_answer.specs.declared.Reason.the-variants.{Holds, NotJudged, OwnMark}
 use Rattle.gate_marks.specs.declared.Scope.{Scope}
-use Rattle.gate_marks.specs.Gate.{Gate, marksOf, ruleOf, readsFile}
+use Rattle.gate_marks.specs.Gate.{Gate, marksOf, ruleOfMark, readsFile}
 use Rattle.gate_marks.specs.Work.{cellsIn}
 use Rattle.gate_marks.specs.Marks.{markRead, fileMark, tableOf, ruleMark, ruleMarkAt, markAt, fullMarks}
 use Rattle.gate_marks.specs.Again.{isNeeded, workJudged}
@@ -43,14 +43,14 @@ unfolding markOf
 of-rule judged b = either OfRule judged _ _ (either OfRule (eqb (b .«record») 0) _ _ (inl refl) (inr (inl refl))) (inr (inr refl))
 
 module _ (g : Gate) (files : ℕ → File) (m : ℕ) (l : g .files ≤ m) where
-  pub rule-mark-is : markAt g m files ≡ ruleMarkAt g (ruleOf g m) files
+  pub rule-mark-is : markAt g m files ≡ ruleMarkAt g (ruleOfMark g m) files
   unfolding markAt
   rule-mark-is = rw (le-ltb m (g .files) l)
 
   rule-cases : OfRule (markAt g m files)
   unfolding ruleMarkAt ruleMark
   rule-cases =
-      rw rule-mark-is (either OfRule (ltb (firstOf (ruleOf g m)) (g .files) && ltb (secondOf (ruleOf g m)) (g .files)) _ _ (of-rule _ _) (inr (inr refl)))
+      rw rule-mark-is (either OfRule (ltb (firstFileOf (ruleOfMark g m)) (g .files) && ltb (secondFileOf (ruleOfMark g m)) (g .files)) _ _ (of-rule _ _) (inr (inr refl)))
 
 -- ---- the four answers
 module _ (g : Gate) (offset : ℕ → ℕ) (files : ℕ → File) (m : ℕ) where
@@ -58,13 +58,13 @@ module _ (g : Gate) (offset : ℕ → ℕ) (files : ℕ → File) (m : ℕ) wher
   x = markAt g m files
 
   abbrev rule : Rule
-  rule = ruleOf g m
+  rule = ruleOfMark g m
 
   abbrev kind : ℕ → ℕ
   kind k = fileMark (g .expected k) (files k) .kind
 
   abbrev pub shown : Shown
-  shown = shownOf rule (offset (firstOf rule)) (tableOf (g .expected (firstOf rule)) (files (firstOf rule))) x
+  shown = shownOf rule (offset (firstFileOf rule)) (tableOf (g .expected (firstFileOf rule)) (files (firstFileOf rule))) x
 
   pub reason-holds : x .kind ≡ 0 → reasonAt g offset files m ≡ Holds
   unfolding reasonAt
@@ -151,23 +151,23 @@ module _ (readable : ℕ → Bool) (low high : ℕ) (order : low ≤ high) (some
 turned : {A B : Type 0} → A ⊎ B → B ⊎ A
 turned h = ⊎-elim (λ a. inr a) (λ b. inl b) h
 
-module _ (n : ℕ) (kind : ℕ → ℕ) (rule : Rule) (some : isReadable n kind (firstOf rule) ≡ true → isReadable n kind (secondOf rule) ≡ false) where
-  some-turned : isReadable n kind (secondOf rule) ≡ true → isReadable n kind (firstOf rule) ≡ false
-  some-turned e = go (isReadable n kind (firstOf rule)) refl
+module _ (n : ℕ) (kind : ℕ → ℕ) (rule : Rule) (some : isReadable n kind (firstFileOf rule) ≡ true → isReadable n kind (secondFileOf rule) ≡ false) where
+  some-turned : isReadable n kind (secondFileOf rule) ≡ true → isReadable n kind (firstFileOf rule) ≡ false
+  some-turned e = go (isReadable n kind (firstFileOf rule)) refl
     where
-      go : (t : Bool) → isReadable n kind (firstOf rule) ≡ t → t ≡ false
+      go : (t : Bool) → isReadable n kind (firstFileOf rule) ≡ t → t ≡ false
       go true f = absurd (true≢false (sym e ∙ some f))
       go false f = refl
 
-  unread-by : Lowest (isReadable n kind) (firstOf rule) (secondOf rule) (unreadOf n kind rule)
+  unread-by : Lowest (isReadable n kind) (firstFileOf rule) (secondFileOf rule) (unreadOf n kind rule)
   unfolding unreadOf
-  unread-by = go (ltb (secondOf rule) (firstOf rule)) refl
+  unread-by = go (ltb (secondFileOf rule) (firstFileOf rule)) refl
     where
-      go : (t : Bool) → ltb (secondOf rule) (firstOf rule) ≡ t → Lowest (isReadable n kind) (firstOf rule) (secondOf rule) (cond t (lowestOf (isReadable n kind) (secondOf rule) (firstOf rule)) (lowestOf (isReadable n kind) (firstOf rule) (secondOf rule)))
+      go : (t : Bool) → ltb (secondFileOf rule) (firstFileOf rule) ≡ t → Lowest (isReadable n kind) (firstFileOf rule) (secondFileOf rule) (cond t (lowestOf (isReadable n kind) (secondFileOf rule) (firstFileOf rule)) (lowestOf (isReadable n kind) (firstFileOf rule) (secondFileOf rule)))
       go true e =
-          let is = lowest-is (isReadable n kind) (secondOf rule) (firstOf rule) (omega (arith, ltb-true (secondOf rule) (firstOf rule) e)) some-turned in
+          let is = lowest-is (isReadable n kind) (secondFileOf rule) (firstFileOf rule) (omega (arith, ltb-true (secondFileOf rule) (firstFileOf rule) e)) some-turned in
           record { one = turned (is .one); unread = is .unread; none = λ j q l. is .none j (turned q) l }
-      go false e = lowest-is (isReadable n kind) (firstOf rule) (secondOf rule) (ltb-false (secondOf rule) (firstOf rule) e) some
+      go false e = lowest-is (isReadable n kind) (firstFileOf rule) (secondFileOf rule) (ltb-false (secondFileOf rule) (firstFileOf rule) e) some
 
 -- ---- of a rule that is not judged, one of the files that it reads can't be read
 judged-kind : (b : Break) → markOf true b .kind ≡ 2 → ⊥
@@ -179,17 +179,17 @@ judged-kind b = go (eqb (b .«record») 0)
     go false e = omega arith
 
 -- the file, as the rule's row names it
-reads-one : (rule : Rule) (j : ℕ) → (reads rule j ≡ true) ↔ ((j ≡ firstOf rule) ⊎ (j ≡ secondOf rule))
+reads-one : (rule : Rule) (j : ℕ) → (reads rule j ≡ true) ↔ ((j ≡ firstFileOf rule) ⊎ (j ≡ secondFileOf rule))
 unfolding reads
-reads-one rule j = (there (eqb (firstOf rule) j) refl, λ h. ⊎-elim (λ q. rw (eq-eqb (firstOf rule) j (sym q))) (λ q. rw (eq-eqb (secondOf rule) j (sym q)) (or-true (eqb (firstOf rule) j))) h)
+reads-one rule j = (there (eqb (firstFileOf rule) j) refl, λ h. ⊎-elim (λ q. rw (eq-eqb (firstFileOf rule) j (sym q))) (λ q. rw (eq-eqb (secondFileOf rule) j (sym q)) (or-true (eqb (firstFileOf rule) j))) h)
   where
     or-true : (t : Bool) → (t || true) ≡ true
     or-true true = refl
     or-true false = refl
 
-    there : (t : Bool) → eqb (firstOf rule) j ≡ t → (t || eqb (secondOf rule) j) ≡ true → (j ≡ firstOf rule) ⊎ (j ≡ secondOf rule)
-    there true e h = inl (sym (eqb-true (firstOf rule) j e))
-    there false e h = inr (sym (eqb-true (secondOf rule) j h))
+    there : (t : Bool) → eqb (firstFileOf rule) j ≡ t → (t || eqb (secondFileOf rule) j) ≡ true → (j ≡ firstFileOf rule) ⊎ (j ≡ secondFileOf rule)
+    there true e h = inl (sym (eqb-true (firstFileOf rule) j e))
+    there false e h = inr (sym (eqb-true (secondFileOf rule) j h))
 
 module _ (n : ℕ) (kind : ℕ → ℕ) (k : ℕ) where
   readable-is : isReadable n kind k ≡ true → (k < n) × (kind k ≡ 0)
@@ -206,20 +206,20 @@ module _ (g : Gate) (files : ℕ → File) (m : ℕ) (l : g .files ≤ m) (e : m
   kinds k = fileMark (g .expected k) (files k) .kind
 
   abbrev own : Rule
-  own = ruleOf g m
+  own = ruleOfMark g m
 
-  not-both : firstOf own < g .files → kinds (firstOf own) ≡ 0 → secondOf own < g .files → kinds (secondOf own) ≡ 0 → ⊥
+  not-both : firstFileOf own < g .files → kinds (firstFileOf own) ≡ 0 → secondFileOf own < g .files → kinds (secondFileOf own) ≡ 0 → ⊥
   unfolding ruleMarkAt ruleMark fileMark markRead isJudged
   not-both a p b q =
-      judged-kind _ (rw (rule-mark-is g files m l, lt-ltb (firstOf own) (g .files) a, lt-ltb (secondOf own) (g .files) b, eq-eqb _ 0 p, eq-eqb _ 0 q) at e)
+      judged-kind _ (rw (rule-mark-is g files m l, lt-ltb (firstFileOf own) (g .files) a, lt-ltb (secondFileOf own) (g .files) b, eq-eqb _ 0 p, eq-eqb _ 0 q) at e)
 
-  some-unread : isReadable (g .files) kinds (firstOf own) ≡ true → isReadable (g .files) kinds (secondOf own) ≡ false
-  some-unread first = go (isReadable (g .files) kinds (secondOf own)) refl
+  some-unread : isReadable (g .files) kinds (firstFileOf own) ≡ true → isReadable (g .files) kinds (secondFileOf own) ≡ false
+  some-unread first = go (isReadable (g .files) kinds (secondFileOf own)) refl
     where
-      go : (t : Bool) → isReadable (g .files) kinds (secondOf own) ≡ t → t ≡ false
+      go : (t : Bool) → isReadable (g .files) kinds (secondFileOf own) ≡ t → t ≡ false
       go true second =
-          let a = readable-is (g .files) kinds (firstOf own) first in
-          let b = readable-is (g .files) kinds (secondOf own) second in
+          let a = readable-is (g .files) kinds (firstFileOf own) first in
+          let b = readable-is (g .files) kinds (secondFileOf own) second in
           absurd (not-both (a .0) (a .1) (b .0) (b .1))
       go false second = refl
 

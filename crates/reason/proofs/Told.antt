@@ -16,14 +16,14 @@ use Rattle.mark_numbers.specs.Marks.{Marks, marksIn, markIn, haveLength, notJud
 use Rattle.mark_numbers.proofs.Laws.{long-lists}
 use Rattle.rule_cells.specs.Cells.{Table, table}
 use Rattle.rule_shape.specs.declared.Rule.{Rule}
-use Rattle.rule_shape.specs.Rule.{firstOf, secondOf, ruleFrom}
+use Rattle.rule_shape.specs.Rule.{firstFileOf, secondFileOf, ruleFrom}
 use Rattle.rule_reason.specs.Reason.{searchedIn}
 use Rattle.rule_reason.proofs.Laws.{deciding-any-count}
 use Rattle.reason_answer.specs.declared.Reason.{Reason}
 use Rattle.reason_answer.specs.declared.Reason.the-variants.{Refused, Holds, NotJudged, OwnMark}
 use Rattle.found_marks.proofs.Laws.{and-false}
 use Rattle.gate_marks.specs.declared.Scope.{Scope}
-use Rattle.gate_marks.specs.Gate.{Gate, marksOf, ruleOf, readsFile, expectedIn, gateFrom}
+use Rattle.gate_marks.specs.Gate.{Gate, marksOf, ruleOfMark, readsFile, expectedIn, gateFrom}
 use Rattle.gate_marks.specs.Work.{roomStart, cellsIn, readOf}
 use Rattle.gate_marks.specs.Marks.{fileMark, tableOf, ruleMark, ruleMarkAt, markAt}
 use Rattle.gate_marks.specs.Again.{newMarks, isNeeded, workJudged, workspaceOf, hasRoom, hasLists, canJudge, marksAfter, workAfterwards}
@@ -50,10 +50,10 @@ readable-same n kind others k same = go (ltb k n) refl
     go true e = ap (λ x. eqb x 0) (same (ltb-true k n e))
     go false e = refl
 
-module _ (n : ℕ) (kind others : ℕ → ℕ) (rule : Rule) (first : firstOf rule < n → kind (firstOf rule) ≡ others (firstOf rule)) (second : secondOf rule < n → kind (secondOf rule) ≡ others (secondOf rule)) where
+module _ (n : ℕ) (kind others : ℕ → ℕ) (rule : Rule) (first : firstFileOf rule < n → kind (firstFileOf rule) ≡ others (firstFileOf rule)) (second : secondFileOf rule < n → kind (secondFileOf rule) ≡ others (secondFileOf rule)) where
   unread-same : unreadOf n kind rule ≡ unreadOf n others rule
   unfolding unreadOf lowestOf
-  unread-same = rw (readable-same n kind others (firstOf rule) first, readable-same n kind others (secondOf rule) second)
+  unread-same = rw (readable-same n kind others (firstFileOf rule) first, readable-same n kind others (secondFileOf rule) second)
 
 told-same : (n m : ℕ) (rule : Rule) (a b : ℕ) (kind others : ℕ → ℕ) (t u : Table) (x : Mark) → (n ≤ m → unreadOf n kind rule ≡ unreadOf n others rule) → (n ≤ m → (x .kind ≡ 2 → ⊥) → shownOf rule a t x ≡ shownOf rule b u x) → toldOf n m rule a kind t x ≡ toldOf n m rule b others u x
 unfolding toldOf
@@ -67,27 +67,27 @@ told-same n m rule a b kind others t u x unread shown =
     go false false e false f h o = ap (brokenBy (searchedIn rule)) (shown (ltb-false m n e) (eqb-false (x .kind) 2 f))
 
 -- ---- a rule's mark that is not 2 is one over files that the set has
-pub rule-files : (g : Gate) (m : ℕ) (files : ℕ → File) → g .files ≤ m → (markAt g m files .kind ≡ 2 → ⊥) → (firstOf (ruleOf g m) < g .files) × (secondOf (ruleOf g m) < g .files)
+pub rule-files : (g : Gate) (m : ℕ) (files : ℕ → File) → g .files ≤ m → (markAt g m files .kind ≡ 2 → ⊥) → (firstFileOf (ruleOfMark g m) < g .files) × (secondFileOf (ruleOfMark g m) < g .files)
 unfolding markAt ruleMarkAt
 rule-files g m files l other =
-    go (ltb (firstOf (ruleOf g m)) (g .files) && ltb (secondOf (ruleOf g m)) (g .files)) refl (ruleMark g (ruleOf g m) (files (firstOf (ruleOf g m))) (files (secondOf (ruleOf g m)))) (rw (le-ltb m (g .files) l) at other)
+    go (ltb (firstFileOf (ruleOfMark g m)) (g .files) && ltb (secondFileOf (ruleOfMark g m)) (g .files)) refl (ruleMark g (ruleOfMark g m) (files (firstFileOf (ruleOfMark g m))) (files (secondFileOf (ruleOfMark g m)))) (rw (le-ltb m (g .files) l) at other)
   where
-    go : (t : Bool) → (ltb (firstOf (ruleOf g m)) (g .files) && ltb (secondOf (ruleOf g m)) (g .files)) ≡ t → (x : Mark) → (cond t x notJudged .kind ≡ 2 → ⊥) → (firstOf (ruleOf g m) < g .files) × (secondOf (ruleOf g m) < g .files)
+    go : (t : Bool) → (ltb (firstFileOf (ruleOfMark g m)) (g .files) && ltb (secondFileOf (ruleOfMark g m)) (g .files)) ≡ t → (x : Mark) → (cond t x notJudged .kind ≡ 2 → ⊥) → (firstFileOf (ruleOfMark g m) < g .files) × (secondFileOf (ruleOfMark g m) < g .files)
     go true e x not-two =
-        (ltb-true _ (g .files) (both-left (ltb (firstOf (ruleOf g m)) (g .files)) (ltb (secondOf (ruleOf g m)) (g .files)) e), ltb-true _ (g .files) (both-right (ltb (firstOf (ruleOf g m)) (g .files)) (ltb (secondOf (ruleOf g m)) (g .files)) e))
+        (ltb-true _ (g .files) (both-left (ltb (firstFileOf (ruleOfMark g m)) (g .files)) (ltb (secondFileOf (ruleOfMark g m)) (g .files)) e), ltb-true _ (g .files) (both-right (ltb (firstFileOf (ruleOfMark g m)) (g .files)) (ltb (secondFileOf (ruleOfMark g m)) (g .files)) e))
     go false e x not-two = absurd (not-two refl)
 
 -- ---- so what is told is decided by the files that the mark reads, and by where they start
 module _ (g : Gate) (m : ℕ) (offset others : ℕ → ℕ) (files those : ℕ → File) (same : (k : ℕ) → k < g .files → readsFile g m k ≡ true → (files k ≡ those k) × (offset k ≡ others k)) where
-  reads-first : g .files ≤ m → readsFile g m (firstOf (ruleOf g m)) ≡ true
+  reads-first : g .files ≤ m → readsFile g m (firstFileOf (ruleOfMark g m)) ≡ true
   reads-first l = first-reads (g .files) (g .rule) m l
 
   pub reason-same : reasonAt g offset files m ≡ reasonAt g others those m
   unfolding reasonAt
   reason-same =
-      ap (toldOf (g .files) m (ruleOf g m) (offset (firstOf (ruleOf g m))) (λ k. fileMark (g .expected k) (files k) .kind) (tableOf (g .expected (firstOf (ruleOf g m))) (files (firstOf (ruleOf g m))))) (mark-read g m files those (λ k l e. same k l e .0))
-      ∙ told-same (g .files) m (ruleOf g m) _ _ _ _ _ _ (markAt g m those)
-      (λ l. unread-same (g .files) _ _ (ruleOf g m) (λ h. ap (λ f. fileMark (g .expected (firstOf (ruleOf g m))) f .kind) (same _ h (reads-first l) .0)) (λ h. ap (λ f. fileMark (g .expected (secondOf (ruleOf g m))) f .kind) (same _ h (second-reads (g .files) (g .rule) m l) .0)))
+      ap (toldOf (g .files) m (ruleOfMark g m) (offset (firstFileOf (ruleOfMark g m))) (λ k. fileMark (g .expected k) (files k) .kind) (tableOf (g .expected (firstFileOf (ruleOfMark g m))) (files (firstFileOf (ruleOfMark g m))))) (mark-read g m files those (λ k l e. same k l e .0))
+      ∙ told-same (g .files) m (ruleOfMark g m) _ _ _ _ _ _ (markAt g m those)
+      (λ l. unread-same (g .files) _ _ (ruleOfMark g m) (λ h. ap (λ f. fileMark (g .expected (firstFileOf (ruleOfMark g m))) f .kind) (same _ h (reads-first l) .0)) (λ h. ap (λ f. fileMark (g .expected (secondFileOf (ruleOfMark g m))) f .kind) (same _ h (second-reads (g .files) (g .rule) m l) .0)))
       (λ l other. let both = same _ (rule-files g m those l other .0) (reads-first l) in rw (both .0, both .1))
 
 -- ---- a mark of the gate of lent tables, judged with those of the files that it reads
@@ -103,7 +103,7 @@ module _ (forms fields names fixed rules values texts : List ℕ) (m : ℕ) (off
 
   abbrev told : Marks → List ℕ → Reason
   told last cells =
-      toldOf n m rule (offset (firstOf rule)) (kindsIn (last .kinds)) (tableFound forms fields files cells (firstOf rule)) (markIn last m)
+      toldOf n m rule (offset (firstFileOf rule)) (kindsIn (last .kinds)) (tableFound forms fields files cells (firstFileOf rule)) (markIn last m)
 
   module _ (few : m < n + length rules / 9) (most : n ≤ 32) (room : roomStart (expectedIn forms fields names fixed) n ≤ length work) where
     -- the kind of the mark of a file that the rule reads
@@ -114,7 +114,7 @@ module _ (forms fields names fixed rules values texts : List ℕ) (m : ℕ) (off
     unread-is : n ≤ m → unreadOf n (kindsIn (newMarks g (Scope.Mark m) files handed .kinds)) rule ≡ unreadOf n (λ k. fileMark (expectedIn forms fields names fixed k) (files k) .kind) rule
     unfolding gateFrom
     unread-is l =
-        unread-same n _ _ rule (λ h. kind-is (firstOf rule) h (first-reads n (ruleFrom rules) m l)) (λ h. kind-is (secondOf rule) h (second-reads n (ruleFrom rules) m l))
+        unread-same n _ _ rule (λ h. kind-is (firstFileOf rule) h (first-reads n (ruleFrom rules) m l)) (λ h. kind-is (secondFileOf rule) h (second-reads n (ruleFrom rules) m l))
 
     cells-are : (k : ℕ) → k < n → readsFile g m k ≡ true → cellsIn (expectedIn forms fields [] []) (workJudged g (Scope.Mark m) files work) k ≡ readOf (expectedIn forms fields names fixed k) (files k) .cells
     unfolding gateFrom workJudged marksOf
@@ -129,8 +129,8 @@ module _ (forms fields names fixed rules values texts : List ℕ) (m : ℕ) (off
     pub told-is : told (newMarks g (Scope.Mark m) files handed) (workJudged g (Scope.Mark m) files work) ≡ reasonAt g offset files m
     unfolding gateFrom reasonAt marksOf
     told-is =
-        ap (toldOf n m rule (offset (firstOf rule)) (kindsIn (newMarks g (Scope.Mark m) files handed .kinds)) (tableFound forms fields files (workJudged g (Scope.Mark m) files work) (firstOf rule))) (asked-mark g m few files handed)
-        ∙ told-same n m rule (offset (firstOf rule)) (offset (firstOf rule)) _ _ _ _ (markAt g m files) unread-is (λ l other. table-is (firstOf rule) (markAt g m files) (rule-files g m files l other .0) (first-reads n (ruleFrom rules) m l))
+        ap (toldOf n m rule (offset (firstFileOf rule)) (kindsIn (newMarks g (Scope.Mark m) files handed .kinds)) (tableFound forms fields files (workJudged g (Scope.Mark m) files work) (firstFileOf rule))) (asked-mark g m few files handed)
+        ∙ told-same n m rule (offset (firstFileOf rule)) (offset (firstFileOf rule)) _ _ _ _ (markAt g m files) unread-is (λ l other. table-is (firstFileOf rule) (markAt g m files) (rule-files g m files l other .0) (first-reads n (ruleFrom rules) m l))
 
   -- how it ends, with lists of as many marks as there are
   module _ (lists : haveLength (n + length rules / 9) handed ≡ true) (few : m < n + length rules / 9) {could : Bool} {last : Marks} {cells : List ℕ}

@@ -10,7 +10,7 @@ use Rattle.parts.specs.Files.{File}
 use Rattle.mark_numbers.specs.declared.Mark.{Mark}
 use Rattle.rule_cells.specs.Cells.{Table, cellOf, startOf, isGiven}
 use Rattle.rule_shape.specs.declared.Rule.{Rule}
-use Rattle.rule_shape.specs.Rule.{firstOf, secondOf}
+use Rattle.rule_shape.specs.Rule.{firstFileOf, secondFileOf}
 use Rattle.rule_reason.specs.declared.Searched.{Searched}
 use Rattle.rule_reason.specs.declared.Searched.the-variants.{In, Nowhere}
 use Rattle.rule_reason.specs.Reason.{decidingField, searchedIn}
@@ -19,7 +19,7 @@ use Rattle.reason_answer.specs.declared.Reason.{Reason}
 use Rattle.reason_answer.specs.declared.Reason.the-variants.{Refused, Holds, NotJudged, OwnMark, Broken, Missing}
 use Rattle.reason_answer.specs.Reason.{shownAt}
 use Rattle.gate_marks.specs.declared.Scope.{Scope}
-use Rattle.gate_marks.specs.Gate.{Gate, marksOf, ruleOf}
+use Rattle.gate_marks.specs.Gate.{Gate, marksOf, ruleOfMark}
 use Rattle.gate_marks.specs.Marks.{fileMark, tableOf, markAt}
 use Rattle.gate_marks.specs.Again.{hasRoom, workJudged}
 
@@ -37,7 +37,7 @@ unfoldable pub shownOf : Rule → ℕ → Table → Mark → Shown
 shownOf rule offset t x =
     let r = x .place - 1 in
     let k = decidingField rule t r in
-    shownAt (firstOf rule) (x .place) (x .companion) k (valueStart offset (t .cells) (t .width) r k) (valueLength (t .cells) (t .width) r k)
+    shownAt (firstFileOf rule) (x .place) (x .companion) k (valueStart offset (t .cells) (t .width) r k) (valueLength (t .cells) (t .width) r k)
 
 -- "A missing target names the table searched"
 unfoldable pub brokenBy : Searched → Shown → Reason
@@ -55,8 +55,8 @@ lowestOf readable low high = cond (readable low) high low
 
 unfoldable pub unreadOf : ℕ → (ℕ → ℕ) → Rule → ℕ
 unreadOf n kind rule =
-    cond (ltb (secondOf rule) (firstOf rule)) (lowestOf (isReadable n kind) (secondOf rule) (firstOf rule))
-    (lowestOf (isReadable n kind) (firstOf rule) (secondOf rule))
+    cond (ltb (secondFileOf rule) (firstFileOf rule)) (lowestOf (isReadable n kind) (secondFileOf rule) (firstFileOf rule))
+    (lowestOf (isReadable n kind) (firstFileOf rule) (secondFileOf rule))
 
 -- ---- What is told of mark x, whose number is m: "A mark that holds says so"; "For a file's own mark it gives its numbers
 -- alone."
@@ -69,8 +69,8 @@ toldOf n m rule offset kind t x =
 -- of a gate's mark, from the files and where each starts in the bundle
 unfoldable pub reasonAt : Gate → (ℕ → ℕ) → (ℕ → File) → ℕ → Reason
 reasonAt g offset files m =
-    let rule = ruleOf g m in
-    let file = firstOf rule in
+    let rule = ruleOfMark g m in
+    let file = firstFileOf rule in
     toldOf (g .files) m rule (offset file) (λ k. fileMark (g .expected k) (files k) .kind) (tableOf (g .expected file) (files file)) (markAt g m files)
 
 -- ---- Over a workspace of so many numbers: 7 for a number that is no mark's; then 14 for a workspace that is too short, and

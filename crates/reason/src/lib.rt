@@ -8,7 +8,7 @@ ghost use lib.ListN.{length};
 ghost use Rattle.standing.specs.Standing.{standing, startStanding};
 ghost use Rattle.mark_numbers.specs.Marks.{marksIn, markIn, haveLength};
 ghost use Rattle.rule_cells.specs.Cells.{table, cellOf};
-ghost use Rattle.rule_shape.specs.Rule.{firstOf, ruleFrom};
+ghost use Rattle.rule_shape.specs.Rule.{firstFileOf, ruleFrom};
 ghost use Rattle.rule_reason.specs.Reason.{searchedIn};
 ghost use Rattle.reason_answer.specs.declared.Reason.the-variants.{Refused};
 ghost use Rattle.gate_marks.specs.declared.Scope.{Scope};
@@ -126,7 +126,7 @@ fn shown_of<'a>(
     found: Mark,
     work: &[u32],
 ) -> Shown
-    ensures { λ x. ⌜ x ≡ shownOf (ruleFrom (now (rules .entry)) i) (startStanding (now (a .entry)) (now (b .entry)) (now (c .entry)) (now (stand .entry)) (firstOf (ruleFrom (now (rules .entry)) i))) (tableFound (now (forms .entry)) (now (fields .entry)) (standing (now (a .entry)) (now (b .entry)) (now (c .entry)) (now (stand .entry))) (now (work .entry)) (firstOf (ruleFrom (now (rules .entry)) i))) found ⌝ }
+    ensures { λ x. ⌜ x ≡ shownOf (ruleFrom (now (rules .entry)) i) (startStanding (now (a .entry)) (now (b .entry)) (now (c .entry)) (now (stand .entry)) (firstFileOf (ruleFrom (now (rules .entry)) i))) (tableFound (now (forms .entry)) (now (fields .entry)) (standing (now (a .entry)) (now (b .entry)) (now (c .entry)) (now (stand .entry))) (now (work .entry)) (firstFileOf (ruleFrom (now (rules .entry)) i))) found ⌝ }
 {
     let file = first_file(rules, i);
     let offset = start_standing(a, b, c, stand, file);
@@ -201,7 +201,7 @@ fn told_of<'a>(
     places: &[usize],
     companions: &[usize],
 ) -> Reason
-    ensures { λ x. ⌜ x ≡ toldOf (length (now (forms .entry)) / 2) mark (ruleFrom (now (rules .entry)) (mark - length (now (forms .entry)) / 2)) (startStanding (now (a .entry)) (now (b .entry)) (now (c .entry)) (now (stand .entry)) (firstOf (ruleFrom (now (rules .entry)) (mark - length (now (forms .entry)) / 2)))) (kindsIn (now (kinds .entry))) (tableFound (now (forms .entry)) (now (fields .entry)) (standing (now (a .entry)) (now (b .entry)) (now (c .entry)) (now (stand .entry))) (now (work .entry)) (firstOf (ruleFrom (now (rules .entry)) (mark - length (now (forms .entry)) / 2)))) (markIn (marksIn (now (kinds .entry)) (now (places .entry)) (now (companions .entry))) mark) ⌝ }
+    ensures { λ x. ⌜ x ≡ toldOf (length (now (forms .entry)) / 2) mark (ruleFrom (now (rules .entry)) (mark - length (now (forms .entry)) / 2)) (startStanding (now (a .entry)) (now (b .entry)) (now (c .entry)) (now (stand .entry)) (firstFileOf (ruleFrom (now (rules .entry)) (mark - length (now (forms .entry)) / 2)))) (kindsIn (now (kinds .entry))) (tableFound (now (forms .entry)) (now (fields .entry)) (standing (now (a .entry)) (now (b .entry)) (now (c .entry)) (now (stand .entry))) (now (work .entry)) (firstFileOf (ruleFrom (now (rules .entry)) (mark - length (now (forms .entry)) / 2)))) (markIn (marksIn (now (kinds .entry)) (now (places .entry)) (now (companions .entry))) mark) ⌝ }
 {
     let n = forms.len() / 2;
     let found = mark_in(kinds, places, companions, mark);

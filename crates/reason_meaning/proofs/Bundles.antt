@@ -17,7 +17,7 @@ use Rattle.parts.proofs.Laws.{part-is}
 use Rattle.table_rows.proofs.Laws.{upFrom, each}
 use Rattle.table_fields.specs.Fields.{fieldsOf, tables}
 use Rattle.table_file.specs.File.{Expected, expectedFrom}
-use Rattle.rule_shape.specs.Rule.{firstOf, ruleFrom}
+use Rattle.rule_shape.specs.Rule.{firstFileOf, ruleFrom}
 use Rattle.rule_reason.specs.Reason.{searchedIn}
 use Rattle.schedule_rules.specs.Rules.{rules}
 use Rattle.schedule_rules.proofs.Opens.{open-rows}
@@ -27,7 +27,7 @@ use Rattle.table_meaning.specs.Meaning.{_∈_, Member}
 use Rattle.bundle_layout.specs.Bundle.{bundleFault, offsetAt, lengthAt, isOmitted, partAt, fileAt}
 use Rattle.bundle_layout.proofs.Laws.{omitted-file, present-file, omitted-offset, omitted-length, present-offset, end-within, part-length}
 use Rattle.reason_answer.specs.declared.Shown.{Shown}
-use Rattle.gate_marks.specs.Gate.{Gate, gateOf, marksOf, ruleOf}
+use Rattle.gate_marks.specs.Gate.{Gate, gateOf, marksOf, ruleOfMark}
 use Rattle.gate_marks.specs.Marks.{tableOf, markAt}
 use Rattle.reason.specs.Reason.{brokenBy}
 use Rattle.reason.proofs.Told.{rule-files}
@@ -103,7 +103,7 @@ broken-value s Nowhere y = refl
 
 module _ (g : Gate) (s : List ℕ) (fine : bundleFault (g .files) s ≡ 0) (m : ℕ) (l : g .files ≤ m) (e : markAt g m (fileAt s) .kind ≡ 1) where
   abbrev first : ℕ
-  first = firstOf (ruleOf g m)
+  first = firstFileOf (ruleOfMark g m)
 
   there : first < g .files
   there = rule-files g m (fileAt s) l (λ z. omega arith) .0
@@ -116,25 +116,25 @@ module _ (g : Gate) (s : List ℕ) (fine : bundleFault (g .files) s ≡ 0) (m : 
       (λ z i. omega (arith, x .means .gives (x .r) (x .shows .inside) .within z i .3, x .means .inside (x .r) (x .shows .inside) .1)) (x .value)
 
   module _ (h : m < marksOf g) where
-    pub broken-told : reasonOf g s m ≡ brokenBy (searchedIn (ruleOf g m)) (shown g (offsetAt s) (fileAt s) m)
+    pub broken-told : reasonOf g s m ≡ brokenBy (searchedIn (ruleOfMark g m)) (shown g (offsetAt s) (fileAt s) m)
     unfolding reasonOf
     broken-told = rw (eq-eqb (bundleFault (g .files) s) 0 fine, lt-ltb m (marksOf g) h) (reason-broken g (offsetAt s) (fileAt s) m l e)
 
     pub value-told : valueShown s (reasonOf g s m) ≡ shownPart s (shown g (offsetAt s) (fileAt s) m)
-    value-told = ap (valueShown s) broken-told ∙ broken-value s (searchedIn (ruleOf g m)) (shown g (offsetAt s) (fileAt s) m)
+    value-told = ap (valueShown s) broken-told ∙ broken-value s (searchedIn (ruleOfMark g m)) (shown g (offsetAt s) (fileAt s) m)
 
 -- ---- document 01's gate
 abbrev none : Expected
 none = expectedFrom 0 false [] []
 
 fits-at : ℕ → Bool
-fits-at i = leb (fieldsEnd (getD rules i (ruleFrom [] 0))) (length (formFields (getD expectedFiles (firstOf (getD rules i (ruleFrom [] 0))) none .form)))
+fits-at i = leb (fieldsEnd (getD rules i (ruleFrom [] 0))) (length (formFields (getD expectedFiles (firstFileOf (getD rules i (ruleFrom [] 0))) none .form)))
 
 fits-below : map fits-at (upFrom 0 61) ≡ map (λ i. true) (upFrom 0 61)
-unfolding fits-at upFrom fieldsEnd formFields firstOf expectedFiles due free fieldsOf tables open-rows
+unfolding fits-at upFrom fieldsEnd formFields firstFileOf expectedFiles due free fieldsOf tables open-rows
 fits-below = refl
 
-pub schedule-fits : (m : ℕ) → 20 ≤ m → m < 81 → fieldsEnd (ruleOf schedule m) ≤ length (formFields (schedule .expected (firstOf (ruleOf schedule m)) .form))
+pub schedule-fits : (m : ℕ) → 20 ≤ m → m < 81 → fieldsEnd (ruleOfMark schedule m) ≤ length (formFields (schedule .expected (firstFileOf (ruleOfMark schedule m)) .form))
 unfolding schedule gateOf fits-at
 schedule-fits m l h = rw files-are (leb-true _ _ (each fits-at (λ i. true) 61 fits-below (m - 20) (omega arith)))
 
@@ -143,12 +143,12 @@ module _ (s : List ℕ) (fine : bundleFault 20 s ≡ 0) (m : ℕ) (l : 20 ≤ m)
   what = shown schedule (offsetAt s) (fileAt s) m
 
   -- of every broken rule of a bundle: what is told, what it means, and the bytes that are handed back
-  pub schedule-told : reasonOf schedule s m ≡ brokenBy (searchedIn (ruleOf schedule m)) what
+  pub schedule-told : reasonOf schedule s m ≡ brokenBy (searchedIn (ruleOfMark schedule m)) what
   schedule-told = broken-told schedule s (rw files-are fine) m (rw files-are l) e (rw marks-are h)
 
   pub schedule-explained : Explains schedule (offsetAt s) (fileAt s) m what
   schedule-explained = explained schedule (offsetAt s) (fileAt s) m (rw files-are l) e (schedule-fits m l h)
 
-  pub schedule-value : BytesOf (schedule-explained .means .gives (schedule-explained .r) (schedule-explained .shows .inside) .members) (bytesOf (fileAt s (firstOf (ruleOf schedule m)))) (what .field) (valueShown s (reasonOf schedule s m))
+  pub schedule-value : BytesOf (schedule-explained .means .gives (schedule-explained .r) (schedule-explained .shows .inside) .members) (bytesOf (fileAt s (firstFileOf (ruleOfMark schedule m)))) (what .field) (valueShown s (reasonOf schedule s m))
   schedule-value =
       rw (value-told schedule s (rw files-are fine) m (rw files-are l) e (rw marks-are h)) (bytes-shown schedule s (rw files-are fine) m (rw files-are l) e what schedule-explained)

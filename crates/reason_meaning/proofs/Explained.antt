@@ -24,7 +24,7 @@ use Rattle.rule_key.specs.declared.Key.{Key}
 use Rattle.rule_key.proofs.Laws.{Repeat}
 use Rattle.rule_shape.specs.declared.Rule.{Rule}
 use Rattle.rule_shape.specs.declared.Rule.the-variants.{KeyOf, OneOf, NullUnless, GivenIf, GivenUnless, NoneBelow, SomeAbove, Together, LevelRun, ParentGiven, AllGiven, NoneGiven, InOrder, TreeLevels, TreeParent, TargetIn, ParentIs, LeafIn, EachHas}
-use Rattle.rule_shape.specs.Rule.{firstOf, secondOf}
+use Rattle.rule_shape.specs.Rule.{firstFileOf, secondFileOf}
 use Rattle.rules.specs.declared.Break.{Break}
 use Rattle.rules.specs.Judge.{ruleBreak, isJudged, markOf}
 use Rattle.rules.proofs.Companion.{companion-of-key}
@@ -37,13 +37,13 @@ use Rattle.table_meaning.proofs.Cells.{says, held-value, null-cell}
 use Rattle.reason_answer.specs.declared.Shown.{Shown}
 use Rattle.reason_answer.specs.declared.Reason.the-variants.{Missing}
 use Rattle.reason_answer.specs.Reason.{shownAt}
-use Rattle.gate_marks.specs.Gate.{Gate, ruleOf}
+use Rattle.gate_marks.specs.Gate.{Gate, ruleOfMark}
 use Rattle.gate_marks.specs.Work.{zeros, widthOf, roomOf, readOf}
 use Rattle.gate_marks.specs.Marks.{tableOf, ruleMark, ruleMarkAt, markAt}
 use Rattle.reason.specs.Reason.{valueStart, valueLength, shownOf, brokenBy, reasonAt}
 use Rattle.reason.proofs.Told.{rule-files}
 use Rattle.reason.proofs.Laws.{rule-mark-is, shown, reason-broken}
-use Rattle.reason_meaning.specs.Explains.{formFields, isSingle, ValueOf, IsValue, IsNull, tableIn, Reads, Explains, fieldsEnd}
+use Rattle.reason_meaning.specs.Explains.{formFields, isSingle, ValueOf, IsValue, IsNull, tableJudged, Reads, Explains, fieldsEnd}
 
 -- ---- a file that is readable and has a record means what its bytes say
 text-records : (text s cells : List ℕ) → readAs (Fixed text) s cells .read .records ≡ 0
@@ -140,41 +140,41 @@ repeat-of judged places texts rule t u file key is x x-is k =
 missing-of : (places texts : List ℕ) (rule : Rule) (t u : Table) (r k : ℕ) → Decides places texts rule t u r k → (file field : ℕ) (when : When) (other id : ℕ) → rule ≡ TargetIn file field when other id → IsMissing t k when u id places texts r
 missing-of places texts rule t u r k d file field when other id is = (rw is at d) .1
 
-module _ (g : Gate) (offset : ℕ → ℕ) (files : ℕ → File) (m : ℕ) (l : g .files ≤ m) (e : markAt g m files .kind ≡ 1) (fits : fieldsEnd (ruleOf g m) ≤ length (formFields (g .expected (firstOf (ruleOf g m)) .form))) where
+module _ (g : Gate) (offset : ℕ → ℕ) (files : ℕ → File) (m : ℕ) (l : g .files ≤ m) (e : markAt g m files .kind ≡ 1) (fits : fieldsEnd (ruleOfMark g m) ≤ length (formFields (g .expected (firstFileOf (ruleOfMark g m)) .form))) where
   abbrev rule : Rule
-  rule = ruleOf g m
+  rule = ruleOfMark g m
 
   abbrev first : ℕ
-  first = firstOf rule
+  first = firstFileOf rule
 
   abbrev second : ℕ
-  second = secondOf rule
+  second = secondFileOf rule
 
   both-there : (first < g .files) × (second < g .files)
   both-there = rule-files g m files l (λ z. omega arith)
 
   -- the mark is the rule's over its two tables
-  mark-is : markAt g m files ≡ markOf (isJudged (readOf (g .expected first) (files first) .read .kind) (readOf (g .expected second) (files second) .read .kind)) (ruleBreak (g .values) (g .texts) rule (tableIn g files first) (tableIn g files second))
+  mark-is : markAt g m files ≡ markOf (isJudged (readOf (g .expected first) (files first) .read .kind) (readOf (g .expected second) (files second) .read .kind)) (ruleBreak (g .values) (g .texts) rule (tableJudged g files first) (tableJudged g files second))
   unfolding ruleMarkAt ruleMark
   mark-is = rule-mark-is g files m l ∙ rw (lt-ltb first (g .files) (both-there .0), lt-ltb second (g .files) (both-there .1))
 
   first-readable : readOf (g .expected first) (files first) .read .kind ≡ 0
   first-readable = judged-first _ _ _ (rw mark-is at e)
 
-  few : tableIn g files first .records ≤ 4096
+  few : tableJudged g files first .records ≤ 4096
   unfolding tableOf readOf
   few = file-records (g .expected first) (files first) (zeros (roomOf (g .expected first .form)))
 
-  found : (r : ℕ) × ((markAt g m files .place ≡ r + 1) × Shows (g .values) (g .texts) rule (tableIn g files first) (tableIn g files second) r (decidingField rule (tableIn g files first) r))
-  found = rw (sym mark-is) at (mark-shows (g .values) (g .texts) (tableIn g files first) (tableIn g files second) few rule _ (rw mark-is at e))
+  found : (r : ℕ) × ((markAt g m files .place ≡ r + 1) × Shows (g .values) (g .texts) rule (tableJudged g files first) (tableJudged g files second) r (decidingField rule (tableJudged g files first) r))
+  found = rw (sym mark-is) at (mark-shows (g .values) (g .texts) (tableJudged g files first) (tableJudged g files second) few rule _ (rw mark-is at e))
 
   abbrev at : ℕ
   at = found .0
 
   abbrev field : ℕ
-  field = decidingField rule (tableIn g files first) at
+  field = decidingField rule (tableJudged g files first) at
 
-  abbrev here : Shows (g .values) (g .texts) rule (tableIn g files first) (tableIn g files second) at field
+  abbrev here : Shows (g .values) (g .texts) rule (tableJudged g files first) (tableJudged g files second) at field
   here = found .1 .1
 
   first-means : Reads g files first
@@ -182,19 +182,19 @@ module _ (g : Gate) (offset : ℕ → ℕ) (files : ℕ → File) (m : ℕ) (l :
   first-means = file-means (g .expected first) (files first) first-readable (omega (arith, here .inside))
 
   field-fits : field < length (formFields (g .expected first .form))
-  field-fits = omega (arith, decides-below (g .values) (g .texts) rule (tableIn g files first) (tableIn g files second) at field (here .field))
+  field-fits = omega (arith, decides-below (g .values) (g .texts) rule (tableJudged g files first) (tableJudged g files second) at field (here .field))
 
-  value-is : ValueOf (first-means .gives at (here .inside) .members) (offset first) field (valueStart (offset first) (tableIn g files first .cells) (2 * length (formFields (g .expected first .form))) at field) (valueLength (tableIn g files first .cells) (2 * length (formFields (g .expected first .form))) at field)
+  value-is : ValueOf (first-means .gives at (here .inside) .members) (offset first) field (valueStart (offset first) (tableJudged g files first .cells) (2 * length (formFields (g .expected first .form))) at field) (valueLength (tableJudged g files first .cells) (2 * length (formFields (g .expected first .form))) at field)
   value-is =
       value-shown (isSingle (g .expected first .form)) (formFields (g .expected first .form)) _ _ _ first-means at (here .inside) field field-fits (offset first)
 
-  width-is : tableIn g files first .width ≡ 2 * length (formFields (g .expected first .form))
+  width-is : tableJudged g files first .width ≡ 2 * length (formFields (g .expected first .form))
   unfolding tableOf
   width-is = form-width (g .expected first .form)
 
   abbrev seen : Shown
   seen =
-      shownAt first (markAt g m files .place) (markAt g m files .companion) field (valueStart (offset first) (tableIn g files first .cells) (2 * length (formFields (g .expected first .form))) at field) (valueLength (tableIn g files first .cells) (2 * length (formFields (g .expected first .form))) at field)
+      shownAt first (markAt g m files .place) (markAt g m files .companion) field (valueStart (offset first) (tableJudged g files first .cells) (2 * length (formFields (g .expected first .form))) at field) (valueLength (tableJudged g files first .cells) (2 * length (formFields (g .expected first .form))) at field)
 
   shown-is : shown g offset files m ≡ seen
   unfolding shownOf
@@ -214,9 +214,9 @@ module _ (g : Gate) (offset : ℕ → ℕ) (files : ℕ → File) (m : ℕ) (l :
       })
 
   -- ---- "a repeated key shows both records": the companion is the earliest record that has the key
-  pub key-repeated : (file : ℕ) (key : Key) → rule ≡ KeyOf file key → (i : ℕ) × ((q : ℕ) × ((shown g offset files m .«record» ≡ i + 1) × ((shown g offset files m .companion ≡ q + 1) × Repeat (tableIn g files first) key i q)))
+  pub key-repeated : (file : ℕ) (key : Key) → rule ≡ KeyOf file key → (i : ℕ) × ((q : ℕ) × ((shown g offset files m .«record» ≡ i + 1) × ((shown g offset files m .companion ≡ q + 1) × Repeat (tableJudged g files first) key i q)))
   unfolding shownOf
-  key-repeated file key is = repeat-of _ (g .values) (g .texts) rule (tableIn g files first) (tableIn g files second) file key is (markAt g m files) mark-is e
+  key-repeated file key is = repeat-of _ (g .values) (g .texts) rule (tableJudged g files first) (tableJudged g files second) file key is (markAt g m files) mark-is e
 
   -- ---- "A missing target names the table searched": no record of that table has the value
   module _ (file field : ℕ) (when : When) (other id : ℕ) (is : rule ≡ TargetIn file field when other id) where
@@ -224,8 +224,8 @@ module _ (g : Gate) (offset : ℕ → ℕ) (files : ℕ → File) (m : ℕ) (l :
     unfolding searchedIn brokenBy
     target-searched = reason-broken g offset files m l e ∙ ap (λ (r : Rule). brokenBy (searchedIn r) (shown g offset files m)) is
 
-    pub target-missing : (y : Shown) (x : Explains g offset files m y) → IsMissing (tableIn g files first) (y .field) when (tableIn g files other) id (g .values) (g .texts) (x .r)
-    unfolding secondOf
+    pub target-missing : (y : Shown) (x : Explains g offset files m y) → IsMissing (tableJudged g files first) (y .field) when (tableJudged g files other) id (g .values) (g .texts) (x .r)
+    unfolding secondFileOf
     target-missing y x =
-        let there : second ≡ other = ap secondOf is in
-        rw there at (missing-of (g .values) (g .texts) rule (tableIn g files first) (tableIn g files second) (x .r) (y .field) (x .shows .field) file field when other id is)
+        let there : second ≡ other = ap secondFileOf is in
+        rw there at (missing-of (g .values) (g .texts) rule (tableJudged g files first) (tableJudged g files second) (x .r) (y .field) (x .shows .field) file field when other id is)

@@ -16,13 +16,13 @@ use Rattle.reason_answer.specs.declared.Reason.{Reason}
 use Rattle.reason_numbers.specs.Numbers.{shownNumbers, toldNumbers}
 use Rattle.rule_cells.specs.Cells.{Table}
 use Rattle.rule_shape.specs.declared.Rule.{Rule}
-use Rattle.rule_shape.specs.Rule.{firstOf, secondOf}
+use Rattle.rule_shape.specs.Rule.{firstFileOf, secondFileOf}
 use Rattle.rules.specs.declared.Break.{Break}
 use Rattle.rules.specs.Judge.{markOf}
 use Rattle.rule_reason.specs.declared.Searched.{Searched}
 use Rattle.rule_reason.specs.declared.Searched.the-variants.{In, Nowhere}
 use Rattle.rule_reason.specs.Reason.{searchedIn}
-use Rattle.gate_marks.specs.Gate.{Gate, ruleOf}
+use Rattle.gate_marks.specs.Gate.{Gate, ruleOfMark}
 use Rattle.gate_marks.specs.Marks.{fileMark, tableOf, ruleMark, ruleMarkAt, markAt}
 use Rattle.reason.specs.Reason.{shownOf, brokenBy, toldOf, reasonAt}
 
@@ -55,9 +55,9 @@ module _ (P : Mark → Type 0) (held : P holds) (not : P notJudged) (broken : (b
 
   rule-mark : (g : Gate) (r : Rule) (files : ℕ → File) → P (ruleMarkAt g r files)
   unfolding ruleMarkAt ruleMark
-  rule-mark g r files = go (ltb (firstOf r) (g .files) && ltb (secondOf r) (g .files))
+  rule-mark g r files = go (ltb (firstFileOf r) (g .files) && ltb (secondFileOf r) (g .files))
     where
-      go : (t : Bool) → P (cond t (ruleMark g r (files (firstOf r)) (files (secondOf r))) notJudged)
+      go : (t : Bool) → P (cond t (ruleMark g r (files (firstFileOf r)) (files (secondFileOf r))) notJudged)
       go true = judged-mark _ _
       go false = not
 
@@ -89,8 +89,8 @@ module _ (g : Gate) (offset : ℕ → ℕ) (files : ℕ → File) (m : ℕ) wher
   rule-numbers h =
       let past : ltb m (g .files) ≡ false = le-ltb m (g .files) h in
       rw past
-      (rule-mark (Numbers (g .files) m _ _ _ _) (held-numbers _ _ _ _ _ _ past) (not-numbers _ _ _ _ _ _ past) (broken-numbers _ _ _ _ _ _ past) g (ruleOf g m) files)
+      (rule-mark (Numbers (g .files) m _ _ _ _) (held-numbers _ _ _ _ _ _ past) (not-numbers _ _ _ _ _ _ past) (broken-numbers _ _ _ _ _ _ past) g (ruleOfMark g m) files)
 
   pub own-numbers : m < g .files → (markAt g m files .kind ≡ 0 → ⊥) → markTold (reasonAt g offset files m) ≡ markNumbers (markAt g m files)
   unfolding reasonAt
-  own-numbers h some = own-told (g .files) m (ruleOf g m) _ _ _ (lt-ltb m (g .files) h) (markAt g m files) some
+  own-numbers h some = own-told (g .files) m (ruleOfMark g m) _ _ _ (lt-ltb m (g .files) h) (markAt g m files) some

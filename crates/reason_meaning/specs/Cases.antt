@@ -8,21 +8,21 @@ use lib.ListN.{length, replicate}
 use lib.Dec.{ltb, eqb}
 use Rattle.parts.specs.Files.{File, Left, Given, bytesOf}
 use Rattle.mark_numbers.specs.declared.Mark.{Mark}
-use Rattle.table_rows.specs.Ascii.{codes}
+use Rattle.json_bytes.specs.Ascii.{codes}
 use Rattle.table_fields.specs.Fields.{fieldsOf}
 use Rattle.table_fields.specs.Flat.{valuePlaces, valueTexts}
 use Rattle.table_file.specs.Table.{TableRead}
 use Rattle.table_file.specs.File.{fileOf}
 use Rattle.rule_cells.specs.Cells.{Table, table}
-use Rattle.rule_shape.specs.Rule.{firstOf, secondOf}
+use Rattle.rule_shape.specs.Rule.{firstFileOf, secondFileOf}
 use Rattle.rules.specs.Judge.{ruleBreak, isJudged, markOf}
 use Rattle.schedule_rules.specs.Rules.{no}
-use Rattle.bundle_bytes.specs.Pieces.{startOf}
+use Rattle.bundle_bytes.specs.Pieces.{pieceStart}
 use Rattle.bundle_layout.specs.Bundle.{headerSize}
 use Rattle.reason_answer.specs.declared.Reason.{Reason}
 use Rattle.reason_answer.specs.declared.Reason.the-variants.{Holds, NotJudged, OwnMark, Broken, Missing}
 use Rattle.reason_answer.specs.Reason.{shownAt}
-use Rattle.gate_marks.specs.Gate.{Gate, ruleOf}
+use Rattle.gate_marks.specs.Gate.{Gate, ruleOfMark}
 use Rattle.gate_marks.specs.Marks.{markRead}
 use Rattle.reason.specs.Reason.{toldOf}
 
@@ -43,19 +43,19 @@ module _ (g : Gate) (files : List (ℕ × String)) where
 
   -- "164 plus the lengths of all earlier present files"
   unfoldable pub startHere : ℕ → ℕ
-  startHere k = headerSize 20 + startOf (λ j. bytesOf (fileIn files j)) k
+  startHere k = headerSize 20 + pieceStart (λ j. bytesOf (fileIn files j)) k
 
   -- ---- The mark of a number, and what is told of it
   unfoldable pub markHere : ℕ → Mark
   markHere m =
-      let rule = ruleOf g m in
+      let rule = ruleOfMark g m in
       cond (ltb m 20) (markRead (reading m .read))
-      (markOf (isJudged (kindHere (firstOf rule)) (kindHere (secondOf rule))) (ruleBreak valuePlaces valueTexts rule (tableHere (firstOf rule)) (tableHere (secondOf rule))))
+      (markOf (isJudged (kindHere (firstFileOf rule)) (kindHere (secondFileOf rule))) (ruleBreak valuePlaces valueTexts rule (tableHere (firstFileOf rule)) (tableHere (secondFileOf rule))))
 
   unfoldable pub told : ℕ → Reason
   told m =
-      let rule = ruleOf g m in
-      toldOf 20 m rule (startHere (firstOf rule)) kindHere (tableHere (firstOf rule)) (markHere m)
+      let rule = ruleOfMark g m in
+      toldOf 20 m rule (startHere (firstFileOf rule)) kindHere (tableHere (firstFileOf rule)) (markHere m)
 
 -- ---- The cases
 pub record Case : Type 0 where

@@ -12,11 +12,11 @@ use Rattle.table_file.specs.File.{Form, Fixed, Single, Records}
 use Rattle.rule_cells.specs.Cells.{Table}
 use Rattle.rule_shape.specs.declared.Rule.{Rule}
 use Rattle.rule_shape.specs.declared.Rule.the-variants.{KeyOf, OneOf, NullUnless, GivenIf, GivenUnless, NoneBelow, SomeAbove, Together, LevelRun, ParentGiven, AllGiven, NoneGiven, InOrder, TreeLevels, TreeParent, TargetIn, ParentIs, LeafIn, EachHas}
-use Rattle.rule_shape.specs.Rule.{firstOf, secondOf}
+use Rattle.rule_shape.specs.Rule.{firstFileOf, secondFileOf}
 use Rattle.rule_meaning.specs.Decides.{Shows}
 use Rattle.table_meaning.specs.Meaning.{_∈_, Member, member, Means}
 use Rattle.reason_answer.specs.declared.Shown.{Shown}
-use Rattle.gate_marks.specs.Gate.{Gate, ruleOf}
+use Rattle.gate_marks.specs.Gate.{Gate, ruleOfMark}
 use Rattle.gate_marks.specs.Marks.{tableOf}
 
 -- ---- A file by its form: its fields, and whether it has one record alone
@@ -43,24 +43,24 @@ pub data BytesOf (members : List Member) (s : List ℕ) (k : ℕ) : List ℕ →
   Nothing : ((y : Member) → y ∈ members → y .field ≡ k → y .null ≡ true) → BytesOf members s k []
 
 -- ---- What is shown of mark m, that of a rule
-abbrev pub tableIn : Gate → (ℕ → File) → ℕ → Table
-tableIn g files k = tableOf (g .expected k) (files k)
+abbrev pub tableJudged : Gate → (ℕ → File) → ℕ → Table
+tableJudged g files k = tableOf (g .expected k) (files k)
 
 -- the records of file k stand in its bytes, each with the cells that the rules read
 abbrev pub Reads : Gate → (ℕ → File) → ℕ → Type 0
 Reads g files k =
-    Means (isSingle (g .expected k .form)) (formFields (g .expected k .form)) (tableIn g files k .bytes) (tableIn g files k .cells) (tableIn g files k .records)
+    Means (isSingle (g .expected k .form)) (formFields (g .expected k .form)) (tableJudged g files k .bytes) (tableJudged g files k .cells) (tableJudged g files k .records)
 
 pub record Explains (g : Gate) (offset : ℕ → ℕ) (files : ℕ → File) (m : ℕ) (shown : Shown) : Type 0 where
-  pub file-is : shown .file ≡ firstOf (ruleOf g m)
+  pub file-is : shown .file ≡ firstFileOf (ruleOfMark g m)
   -- the record, counted from 0
   pub r : ℕ
   pub record-is : shown .«record» ≡ r + 1
   -- it breaks the rule and no earlier one does; the field decides
-  pub shows : Shows (g .values) (g .texts) (ruleOf g m) (tableIn g files (firstOf (ruleOf g m))) (tableIn g files (secondOf (ruleOf g m))) r (shown .field)
+  pub shows : Shows (g .values) (g .texts) (ruleOfMark g m) (tableJudged g files (firstFileOf (ruleOfMark g m))) (tableJudged g files (secondFileOf (ruleOfMark g m))) r (shown .field)
   -- the value is the one that this record has in that field
-  pub means : Reads g files (firstOf (ruleOf g m))
-  pub value : ValueOf (means .gives r (shows .inside) .members) (offset (firstOf (ruleOf g m))) (shown .field) (shown .start) (shown .length)
+  pub means : Reads g files (firstFileOf (ruleOfMark g m))
+  pub value : ValueOf (means .gives r (shows .inside) .members) (offset (firstFileOf (ruleOfMark g m))) (shown .field) (shown .start) (shown .length)
 
 -- ---- A rule names fields that its table has: behind the last that can decide it
 unfoldable pub fieldsEnd : Rule → ℕ

@@ -13,8 +13,8 @@ use types.Run.{OneOf, miss}
 use lib.ListN.{length, getD, set, drop, drop-of-length-le}
 use lib.Seq.{drop-cons, getD-set-same, getD-set-other, ext-getD}
 use lib.Dec.{eqb}
-use Rattle.table_rows.specs.Ascii.{codes}
-use Rattle.text_place.specs.Place.{count}
+use Rattle.json_bytes.specs.Ascii.{codes}
+use Rattle.text_place.specs.Place.{countWhere}
 use Rattle.bundle_bytes.specs.Pieces.{joined}
 use Rattle.bundle_bytes.proofs.Laws.{joined-next}
 use Rattle.output.specs.Output.{Output, put}
@@ -74,10 +74,10 @@ module _ (f : ℕ → ℕ) where
 -- ---- how many entries of a list are one number, as a loop goes over it
 module _ (keepers : List ℕ) (file : ℕ) where
   abbrev pub counted : List ℕ → ℕ
-  counted l = count (λ keeper. eqb keeper file) l
+  counted l = countWhere (λ keeper. eqb keeper file) l
 
   count-cons : (x : ℕ) (l : List ℕ) → counted (x ∷ l) ≡ cond (eqb x file) 1 0 + counted l
-  unfolding count
+  unfolding countWhere
   count-cons x l = go (eqb x file)
     where
       go : (t : Bool) → cond t (suc (counted l)) (counted l) ≡ cond t 1 0 + counted l
@@ -90,7 +90,7 @@ module _ (keepers : List ℕ) (file : ℕ) where
       omega arith
 
   pub count-end : (found i : ℕ) → length keepers ≤ i → found + counted (drop i keepers) ≡ counted keepers → found ≡ counted keepers
-  unfolding count
+  unfolding countWhere
   count-end found i l h = omega (arith, rw (drop-of-length-le keepers {i = i} l) at h)
 
 -- ---- the line of a file that keeps n marks
@@ -110,11 +110,11 @@ module _ (which : Which) (keepers : List ℕ) (o : Output) where
   unfolding keptLines joined put
   keepers-start = refl
 
-  pub keepers-next : (file : ℕ) {n : ℕ} {p q : Output} → n ≡ count (λ keeper. eqb keeper file) keepers → p ≡ put o (keptLines which keepers file) → q ≡ put p (keptLine which file n) → q ≡ put o (keptLines which keepers (file + 1))
+  pub keepers-next : (file : ℕ) {n : ℕ} {p q : Output} → n ≡ countWhere (λ keeper. eqb keeper file) keepers → p ≡ put o (keptLines which keepers file) → q ≡ put p (keptLine which file n) → q ≡ put o (keptLines which keepers (file + 1))
   unfolding keptLines
   keepers-next file e f h =
-      rw (joined-next (λ file. keptLine which file (count (λ keeper. eqb keeper file) keepers)) file)
-      (put-then o (keptLines which keepers file) (keptLine which file (count (λ keeper. eqb keeper file) keepers)) f (rw e at h))
+      rw (joined-next (λ file. keptLine which file (countWhere (λ keeper. eqb keeper file) keepers)) file)
+      (put-then o (keptLines which keepers file) (keptLine which file (countWhere (λ keeper. eqb keeper file) keepers)) f (rw e at h))
 
   pub keepers-end : {file n : ℕ} {p : Output} → file ≡ n → p ≡ put o (keptLines which keepers file) → p ≡ put o (keptLines which keepers n)
   keepers-end e h = h ∙ ap (λ k. put o (keptLines which keepers k)) e

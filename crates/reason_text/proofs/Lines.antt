@@ -6,7 +6,7 @@ use mathlib.Core.Bool.{Bool, true, false}
 use mathlib.Core.List.{List, [], _∷_, _++_}
 use borrow.Author.Tests.{eq-eqb, ne-eqb}
 use lib.Dec.{eqb}
-use Rattle.table_rows.specs.Ascii.{codes}
+use Rattle.json_bytes.specs.Ascii.{codes}
 use Rattle.text_place.specs.declared.Spot.{Spot}
 use Rattle.text_place.specs.Place.{spotAt}
 use Rattle.bundle_bytes.specs.Pieces.{joined}
@@ -16,7 +16,7 @@ use Rattle.output.proofs.Puts.{put-then}
 use Rattle.mark_numbers.specs.Marks.{Marks, markIn}
 use Rattle.mark_numbers.specs.declared.Mark.{Mark}
 use Rattle.reason_answer.specs.declared.Reason.{Reason}
-use Rattle.report.specs.Report.{numbersOf}
+use Rattle.report.specs.Report.{lineNumbers}
 use Rattle.gate_lists.specs.declared.Which.{Which}
 use Rattle.gate_lists.specs.Which.{gateCalled}
 use Rattle.gate_calls.specs.Reasons.{reasonOf, valueShown}
@@ -51,10 +51,10 @@ module _ (which : Which) (s : List ℕ) (m : ℕ) (told : Reason) (o : Output) w
   unfolding sentenceOf
   sentence-put e f g h = h ∙ rw (e, f, g)
 
-  pub line-put : (mark : Mark) {p q r t : Output} → p ≡ put o (numbersOf m mark) → q ≡ put p (32 ∷ []) → r ≡ put q (sentenceOf which s m told) → t ≡ put r (10 ∷ []) → t ≡ put o (lineWith which s m mark told)
+  pub line-put : (mark : Mark) {p q r t : Output} → p ≡ put o (lineNumbers m mark) → q ≡ put p (32 ∷ []) → r ≡ put q (sentenceOf which s m told) → t ≡ put r (10 ∷ []) → t ≡ put o (lineWith which s m mark told)
   unfolding lineWith codes
   line-put mark e f g h =
-      put-then o _ (10 ∷ []) (put-then o _ (sentenceOf which s m told) (put-then o (numbersOf m mark) (32 ∷ []) e f) g) h
+      put-then o _ (10 ∷ []) (put-then o _ (sentenceOf which s m told) (put-then o (lineNumbers m mark) (32 ∷ []) e f) g) h
 
 -- ---- none for a silent mark, else with what is told of it
 module _ (which : Which) (grouped : Bool) (s : List ℕ) (m : ℕ) (mark : Mark) (o : Output) {t : Bool} (t-is : t ≡ isSilent grouped (mark .kind)) where

@@ -8,7 +8,7 @@ use native.Mathlib.Omega.{arith}
 use borrow.Author.Tests.{le-leb, lt-leb, eq-eqb, ne-eqb}
 use lib.ListN.{length, take}
 use lib.Dec.{leb}
-use Rattle.table_rows.specs.Ascii.{codes}
+use Rattle.json_bytes.specs.Ascii.{codes}
 use Rattle.output.specs.Output.{outputAt, Output, put}
 use Rattle.output.proofs.Puts.{put-then, put-as-far}
 use Rattle.mark_numbers.specs.Marks.{Marks}

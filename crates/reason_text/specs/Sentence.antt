@@ -11,14 +11,14 @@ use Rattle.reason_answer.specs.declared.Reason.the-variants.{Refused, Holds, No
 use Rattle.gate_calls.specs.Reasons.{valueShown}
 use Rattle.gate_lists.specs.declared.Which.{Which}
 use Rattle.wording.specs.declared.Slots.{Slots}
-use Rattle.wording.specs.Sentences.{sentenceAt, ofRule, ofKind, notJudged, nothing}
+use Rattle.wording.specs.Sentences.{sentenceAt, ofRule, ofKind, notJudgedSentence, nothing}
 use Rattle.wording.specs.Wording.{filled}
 
 -- which sentence it is, of mark m; none for one that holds
 unfoldable pub sentenceNumber : Which → ℕ → Reason → ℕ
 sentenceNumber which m (Refused refusal) = nothing
 sentenceNumber which m Holds = nothing
-sentenceNumber which m (NotJudged file) = notJudged
+sentenceNumber which m (NotJudged file) = notJudgedSentence
 sentenceNumber which m (OwnMark kind place companion) = ofKind which kind
 sentenceNumber which m (Broken shown) = ofRule which m
 sentenceNumber which m (Missing shown searched) = ofRule which m

@@ -5,14 +5,14 @@ use mathlib.Core.Bool.{Bool, cond, _&&_, _||_}
 use mathlib.Core.List.{List, [], _++_}
 use lib.ListN.{length, take, drop}
 use lib.Dec.{eqb}
-use Rattle.table_rows.specs.Ascii.{codes}
+use Rattle.json_bytes.specs.Ascii.{codes}
 use Rattle.bundle_bytes.specs.Pieces.{joined}
-use Rattle.text_place.specs.Place.{count}
+use Rattle.text_place.specs.Place.{countWhere}
 use Rattle.mark_numbers.specs.Marks.{Marks, listOf, markIn}
 use Rattle.mark_numbers.specs.declared.Mark.{Mark}
 use Rattle.reason_answer.specs.declared.Reason.{Reason}
 use Rattle.reason_answer.specs.declared.Reason.the-variants.{Refused, Holds, NotJudged, OwnMark, Broken, Missing}
-use Rattle.report.specs.Report.{counted, numbersOf, lastLine, refusalText}
+use Rattle.report.specs.Report.{counted, lineNumbers, lastLine, refusalText}
 use Rattle.gate_marks.specs.Gate.{Gate}
 use Rattle.gate_marks.specs.Again.{hasRoom}
 use Rattle.gate_calls.specs.Calls.{Answer, judgement}
@@ -28,7 +28,7 @@ unfoldable pub isSilent : Bool → ℕ → Bool
 isSilent grouped kind = eqb kind 0 || (grouped && eqb kind 2)
 
 unfoldable pub lineWith : Which → List ℕ → ℕ → Mark → Reason → List ℕ
-lineWith which s m mark told = numbersOf m mark ++ codes " " ++ sentenceOf which s m told ++ codes "\n"
+lineWith which s m mark told = lineNumbers m mark ++ codes " " ++ sentenceOf which s m told ++ codes "\n"
 
 unfoldable pub reasonLine : Which → Bool → List ℕ → ℕ → Mark → List ℕ
 reasonLine which grouped s m mark =
@@ -59,7 +59,7 @@ keptLine which file n =
     cond (eqb n 0) [] (filled which (fileSlots file n) [] (sentenceAt (cond (eqb n 1) keepsOne keepsMany)) ++ codes "\n")
 
 unfoldable pub keptLines : Which → List ℕ → ℕ → List ℕ
-keptLines which keepers n = joined (λ file. keptLine which file (count (λ keeper. eqb keeper file) keepers)) n
+keptLines which keepers n = joined (λ file. keptLine which file (countWhere (λ keeper. eqb keeper file) keepers)) n
 
 -- ---- The whole text
 unfoldable pub marksText : Which → Bool → List ℕ → Marks → List ℕ

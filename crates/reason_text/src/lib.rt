@@ -6,7 +6,7 @@ ghost use Prim.Native.Nat.{_≤_};
 ghost use lib.ListN.{length, take};
 ghost use lib.Dec.{eqb};
 ghost use Rattle.output.specs.Output.{outputAt, put};
-ghost use Rattle.text_place.specs.Place.{spotAt, count};
+ghost use Rattle.text_place.specs.Place.{spotAt, countWhere};
 ghost use Rattle.parts.specs.Files.{bytesOf};
 ghost use Rattle.bundle_layout.specs.Bundle.{fileAt};
 ghost use Rattle.mark_numbers.specs.Marks.{marksIn, listOf};
@@ -275,7 +275,7 @@ fn one_where_same(keeper: usize, file: usize) -> usize
 
 // How many marks a file keeps.
 fn count_kept(keepers: &[usize], file: usize) -> usize
-    ensures { λ r. ⌜ r ≡ count (λ keeper. eqb keeper file) (now (keepers .entry)) ⌝ }
+    ensures { λ r. ⌜ r ≡ countWhere (λ keeper. eqb keeper file) (now (keepers .entry)) ⌝ }
 {
     let mut found = 0;
     let mut i = 0;

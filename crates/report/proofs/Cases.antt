@@ -7,7 +7,7 @@ use mathlib.Core.Bool.{Bool, false, cond, _||_}
 use mathlib.Core.List.{List, [], _∷_, map}
 use lib.ListN.{replicate}
 use lib.Dec.{eqb}
-use Rattle.table_rows.specs.Ascii.{codes}
+use Rattle.json_bytes.specs.Ascii.{codes}
 use Rattle.mark_numbers.specs.Marks.{Marks, marksIn, marksFrom, holds, notJudged, freshMarks}
 use Rattle.mark_numbers.specs.declared.Mark.{Mark}
 use Rattle.output.specs.Decimal.{decimal}

@@ -8,12 +8,12 @@ use native.Mathlib.Omega.{arith}
 use borrow.Author.Tests.{ne-eqb, ltb-true, ltb-false}
 use lib.ListN.{length, getD}
 use lib.Dec.{ltb, eqb}
-use Rattle.table_rows.specs.Ascii.{codes}
+use Rattle.json_bytes.specs.Ascii.{codes}
 use Rattle.bundle_bytes.specs.Pieces.{joined}
 use Rattle.mark_numbers.specs.Marks.{Marks, markIn, faultsUpTo, faultsIn}
 use Rattle.mark_numbers.specs.declared.Mark.{Mark}
 use Rattle.output.specs.Decimal.{digitsIn, decimal}
-use Rattle.report.specs.Report.{numbersOf, lineOf, lineIn, linesUpTo}
+use Rattle.report.specs.Report.{lineNumbers, lineOf, lineIn, linesUpTo}
 use Rattle.output.proofs.Digits.{digits-last, digits-more}
 
 unfoldable pub feedsIn : List ℕ → ℕ
@@ -44,7 +44,7 @@ unfolding decimal
 decimal-feeds x = digits-feeds (suc x) x
 
 line-feeds : (m : ℕ) (mark : Mark) → feedsIn (lineOf m mark) ≡ cond (eqb (mark .kind) 0) 0 1
-unfolding lineOf numbersOf codes feedsIn
+unfolding lineOf lineNumbers codes feedsIn
 line-feeds m mark = go (eqb (mark .kind) 0)
   where
     go : (t : Bool) → feedsIn (cond t [] (decimal m ++ codes " " ++ decimal (mark .kind) ++ codes " " ++ decimal (mark .place) ++ codes " " ++ decimal (mark .companion) ++ codes "\n")) ≡ cond t 0 1

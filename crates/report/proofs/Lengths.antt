@@ -8,11 +8,11 @@ use mir.Syntax.{w32, w64}
 use mir.Val.{Fits}
 use lib.ListN.{length, getD, length-append}
 use lib.Dec.{eqb}
-use Rattle.table_rows.specs.Ascii.{codes}
+use Rattle.json_bytes.specs.Ascii.{codes}
 use Rattle.bundle_bytes.specs.Pieces.{joined}
 use Rattle.mark_numbers.specs.Marks.{Marks, markIn, faultsUpTo, faultsIn}
 use Rattle.mark_numbers.specs.declared.Mark.{Mark}
-use Rattle.report.specs.Report.{counted, numbersOf, lineOf, lineIn, linesUpTo, isAccepted, lastLine, boardText, refusalText, reportOf, textRoom}
+use Rattle.report.specs.Report.{counted, lineNumbers, lineOf, lineIn, linesUpTo, isAccepted, lastLine, boardText, refusalText, reportOf, textRoom}
 use Rattle.output.proofs.Digits.{decimal-length}
 
 one-of : (t : Bool) (v w : List ℕ) (n : ℕ) → length v ≤ n → length w ≤ n → length (cond t v w) ≤ n
@@ -25,7 +25,7 @@ counted-length word x l = simp length-append (omega (arith, decimal-length x 19 
 
 -- a number below 1,000, one of 32 bits and two of 64, with a byte behind each
 line-length : (m : ℕ) (mark : Mark) → m < 1000 → mark .kind < 2 ^ 32 → mark .place < 2 ^ 64 → mark .companion < 2 ^ 64 → length (lineOf m mark) ≤ 57
-unfolding lineOf numbersOf codes
+unfolding lineOf lineNumbers codes
 line-length m mark l k p c =
     one-of (eqb (mark .kind) 0) [] _ 57 (omega arith)
     (simp length-append (omega (arith, decimal-length m 2 (omega arith), decimal-length (mark .kind) 9 (omega arith), decimal-length (mark .place) 19 (omega arith), decimal-length (mark .companion) 19 (omega arith))))

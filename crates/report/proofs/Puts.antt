@@ -5,7 +5,7 @@ use mathlib.Core.Path.{_≡_, refl, sym, ap, _∙_}
 use mathlib.Core.List.{List, [], _∷_, _++_, append-assoc}
 use borrow.Author.Tests.{eq-eqb, ne-eqb}
 use lib.ListN.{length}
-use Rattle.table_rows.specs.Ascii.{codes}
+use Rattle.json_bytes.specs.Ascii.{codes}
 use Rattle.bundle_bytes.specs.Pieces.{joined}
 use Rattle.bundle_bytes.proofs.Laws.{joined-next}
 use Rattle.output.specs.Decimal.{decimal}
@@ -13,7 +13,7 @@ use Rattle.output.specs.Output.{Output, outputAt, put, ended}
 use Rattle.output.proofs.Puts.{put-then}
 use Rattle.mark_numbers.specs.Marks.{Marks, markIn, faultsIn}
 use Rattle.mark_numbers.specs.declared.Mark.{Mark}
-use Rattle.report.specs.Report.{counted, numbersOf, lineOf, lineIn, linesUpTo, isAccepted, lastLine, boardText}
+use Rattle.report.specs.Report.{counted, lineNumbers, lineOf, lineIn, linesUpTo, isAccepted, lastLine, boardText}
 
 -- ---- lines
 pub counted-put : (o : Output) (word : List ℕ) (x : ℕ) {p q : Output} → p ≡ put o word → q ≡ put p (ended x 10) → q ≡ put o (counted word x)
@@ -25,16 +25,16 @@ module _ (o : Output) (m : ℕ) (mark : Mark) where
   unfolding lineOf put
   line-none z = rw (eq-eqb (mark .kind) 0 z)
 
-  pub line-put : (mark .kind ≡ 0 → ⊥) → {p q : Output} → p ≡ put o (numbersOf m mark) → q ≡ put p (10 ∷ []) → q ≡ put o (lineOf m mark)
+  pub line-put : (mark .kind ≡ 0 → ⊥) → {p q : Output} → p ≡ put o (lineNumbers m mark) → q ≡ put p (10 ∷ []) → q ≡ put o (lineOf m mark)
   unfolding lineOf codes
-  line-put z e h = rw (ne-eqb (mark .kind) 0 z) (put-then o (numbersOf m mark) (10 ∷ []) e h)
+  line-put z e h = rw (ne-eqb (mark .kind) 0 z) (put-then o (lineNumbers m mark) (10 ∷ []) e h)
 
   -- each number but the last with the byte behind it
-  numbers-parts : ended m 32 ++ ended (mark .kind) 32 ++ ended (mark .place) 32 ++ decimal (mark .companion) ≡ numbersOf m mark
-  unfolding numbersOf codes
+  numbers-parts : ended m 32 ++ ended (mark .kind) 32 ++ ended (mark .place) 32 ++ decimal (mark .companion) ≡ lineNumbers m mark
+  unfolding lineNumbers codes
   numbers-parts = simp append-assoc
 
-  pub numbers-put : {p q r s : Output} → p ≡ put o (ended m 32) → q ≡ put p (ended (mark .kind) 32) → r ≡ put q (ended (mark .place) 32) → s ≡ put r (decimal (mark .companion)) → s ≡ put o (numbersOf m mark)
+  pub numbers-put : {p q r s : Output} → p ≡ put o (ended m 32) → q ≡ put p (ended (mark .kind) 32) → r ≡ put q (ended (mark .place) 32) → s ≡ put r (decimal (mark .companion)) → s ≡ put o (lineNumbers m mark)
   numbers-put e f g h =
       rw (← numbers-parts)
       (put-then o _ (decimal (mark .companion)) (put-then o _ (ended (mark .place) 32) (put-then o (ended m 32) (ended (mark .kind) 32) e f) g) h)

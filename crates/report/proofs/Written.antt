@@ -7,7 +7,7 @@ use mathlib.Core.List.{List, [], _++_}
 use native.Mathlib.Omega.{arith}
 use borrow.Author.Tests.{le-leb, lt-leb, eq-eqb, ne-eqb}
 use lib.ListN.{length, drop}
-use Rattle.table_rows.specs.Ascii.{codes}
+use Rattle.json_bytes.specs.Ascii.{codes}
 use Rattle.mark_numbers.specs.Marks.{Marks, haveLength}
 use Rattle.report.specs.Report.{counted, boardText, refusalText, reportOf, textRoom, isPrinted, textIn}
 use Rattle.output.specs.Output.{outputAt, put}

@@ -4,7 +4,7 @@ use mathlib.Core.Bool.{Bool, cond, _&&_}
 use mathlib.Core.List.{List, [], _++_}
 use lib.ListN.{length}
 use lib.Dec.{leb, eqb}
-use Rattle.table_rows.specs.Ascii.{codes}
+use Rattle.json_bytes.specs.Ascii.{codes}
 use Rattle.bundle_bytes.specs.Pieces.{joined}
 use Rattle.output.specs.Decimal.{decimal}
 use Rattle.mark_numbers.specs.Marks.{Marks, markIn, haveLength, faultsIn}
@@ -16,13 +16,13 @@ unfoldable pub counted : List ℕ → ℕ → List ℕ
 counted word x = word ++ decimal x ++ codes "\n"
 
 -- "its number, kind and place, single spaces between", and by document 02, order 5, its companion behind them
-unfoldable pub numbersOf : ℕ → Mark → List ℕ
-numbersOf m mark =
+unfoldable pub lineNumbers : ℕ → Mark → List ℕ
+lineNumbers m mark =
     decimal m ++ codes " " ++ decimal (mark .kind) ++ codes " " ++ decimal (mark .place) ++ codes " " ++ decimal (mark .companion)
 
 -- "for each mark of kind other than 0 a line"
 unfoldable pub lineOf : ℕ → Mark → List ℕ
-lineOf m mark = cond (eqb (mark .kind) 0) [] (numbersOf m mark ++ codes "\n")
+lineOf m mark = cond (eqb (mark .kind) 0) [] (lineNumbers m mark ++ codes "\n")
 
 unfoldable pub lineIn : Marks → ℕ → List ℕ
 lineIn marks m = lineOf m (markIn marks m)

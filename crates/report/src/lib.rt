@@ -4,7 +4,7 @@ ghost use mathlib.Core.List.{_++_};
 ghost use Prim.Native.Nat.{_≤_};
 ghost use lib.ListN.{length, drop};
 ghost use Rattle.mark_numbers.specs.Marks.{marksIn};
-ghost use Rattle.report.specs.Report.{counted, numbersOf, lineOf, linesUpTo, lastLine, boardText, textIn};
+ghost use Rattle.report.specs.Report.{counted, lineNumbers, lineOf, linesUpTo, lastLine, boardText, textIn};
 ghost use Rattle.output.specs.Output.{outputAt, put};
 use mark_numbers::Mark;
 use mark_numbers::count_faults;
@@ -25,7 +25,7 @@ pub fn put_counted(out: &mut [u8], at: usize, word: &[u8], x: usize) -> usize
 
 // The numbers of a mark.
 pub fn put_numbers(out: &mut [u8], at: usize, m: usize, mark: Mark) -> usize
-    ensures { λ r. ⌜ outputAt (now (out .exit)) r ≡ put (outputAt (now (out .entry)) at) (numbersOf m mark) ⌝ }
+    ensures { λ r. ⌜ outputAt (now (out .exit)) r ≡ put (outputAt (now (out .entry)) at) (lineNumbers m mark) ⌝ }
 {
     let kind = mark.kind as usize;
     let place = mark.place;

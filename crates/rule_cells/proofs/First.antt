@@ -6,7 +6,7 @@ use mathlib.Core.Bool.{Bool, true, false}
 use mathlib.Core.Logic.{_↔_}
 use native.Mathlib.Decide.{ℕ-discrete}
 use native.Mathlib.Omega.{arith}
-use Rattle.rule_cells.specs.Cells.{firstFrom, firstOf}
+use Rattle.rule_cells.specs.Cells.{firstFrom, firstThat}
 
 -- of the n records from record i on, record r is the first that breaks
 pub record First (breaks : ℕ → Bool) (n i r : ℕ) : Type 0 where
@@ -88,22 +88,22 @@ module _ (breaks : ℕ → Bool) where
           }))
 
   -- ---- of all n records
-  pub first-found : (n r : ℕ) → firstOf breaks n ≡ suc r → First breaks n 0 r
-  unfolding firstOf
+  pub first-found : (n r : ℕ) → firstThat breaks n ≡ suc r → First breaks n 0 r
+  unfolding firstThat
   first-found n r = from-found n 0 r
 
-  pub found-first : (n r : ℕ) → First breaks n 0 r → firstOf breaks n ≡ suc r
-  unfolding firstOf
+  pub found-first : (n r : ℕ) → First breaks n 0 r → firstThat breaks n ≡ suc r
+  unfolding firstThat
   found-first n r = found-from n 0 r
 
-  pub first-none : (n : ℕ) → firstOf breaks n ≡ 0 → (j : ℕ) → j < n → breaks j ≡ false
-  unfolding firstOf
+  pub first-none : (n : ℕ) → firstThat breaks n ≡ 0 → (j : ℕ) → j < n → breaks j ≡ false
+  unfolding firstThat
   first-none n e j l = from-none n 0 e j (omega arith) (omega arith)
 
-  pub none-first : (n : ℕ) → ((j : ℕ) → j < n → breaks j ≡ false) → firstOf breaks n ≡ 0
-  unfolding firstOf
+  pub none-first : (n : ℕ) → ((j : ℕ) → j < n → breaks j ≡ false) → firstThat breaks n ≡ 0
+  unfolding firstThat
   none-first n h = none-from n 0 (λ j l u. h j (omega arith))
 
   -- no record breaks exactly if the first that does is none
-  pub first-is-none : (n : ℕ) → (firstOf breaks n ≡ 0) ↔ ((r : ℕ) → r < n → breaks r ≡ false)
+  pub first-is-none : (n : ℕ) → (firstThat breaks n ≡ 0) ↔ ((r : ℕ) → r < n → breaks r ≡ false)
   first-is-none n = (first-none n, none-first n)

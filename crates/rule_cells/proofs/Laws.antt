@@ -10,7 +10,7 @@ use native.Mathlib.Omega.{arith}
 use borrow.Author.Tests.{le-leb, lt-leb}
 use lib.ListN.{length, getD}
 use lib.Dec.{leb}
-use Rattle.rule_cells.specs.Cells.{cellOf, startOf, isGiven, firstFrom, firstOf}
+use Rattle.rule_cells.specs.Cells.{cellOf, startOf, isGiven, firstFrom, firstThat}
 
 -- records and their cells are few, so that a cell's number is small
 pub product-small : (r w : ℕ) → r ≤ 4096 → w ≤ 128 → r * w ≤ 524288

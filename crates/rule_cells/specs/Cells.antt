@@ -73,5 +73,5 @@ unfoldable pub firstFrom : (ℕ → Bool) → ℕ → ℕ → ℕ
 firstFrom breaks zero i = 0
 firstFrom breaks (suc n) i = elim (breaks i) [ true ↦ suc i | false ↦ firstFrom breaks n (suc i) ]
 
-unfoldable pub firstOf : (ℕ → Bool) → ℕ → ℕ
-firstOf breaks n = firstFrom breaks n 0
+unfoldable pub firstThat : (ℕ → Bool) → ℕ → ℕ
+firstThat breaks n = firstFrom breaks n 0

@@ -2,8 +2,8 @@
 -- added here asks nothing of those above.
 use mathlib.Core.Bool.{Bool, true}
 use Rattle.rule_cells.proofs.Opens.{open-cells}
-use Rattle.rule_dates.specs.Dates.{isLater, isAfter, breaksOrder, inOrder}
+use Rattle.rule_dates.specs.Dates.{isLater, isAfter, breaksOrder, datesInOrderRule}
 
 unfoldable pub open-dates : Bool
-unfolding open-cells isLater isAfter breaksOrder inOrder
+unfolding open-cells isLater isAfter breaksOrder datesInOrderRule
 open-dates = true

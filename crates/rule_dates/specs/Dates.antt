@@ -5,7 +5,7 @@ use mathlib.Core.Bool.{Bool, false, cond, _&&_}
 use lib.Dec.{ltb, eqb}
 use Rattle.json_date.specs.declared.Date.{Date}
 use Rattle.json_date.specs.declared.Date.the-variants.{Day, NoDate}
-use Rattle.rule_cells.specs.Cells.{Table, table, isGiven, dateIn, firstOf}
+use Rattle.rule_cells.specs.Cells.{Table, table, isGiven, dateIn, firstThat}
 
 -- day d of month m of year y is later than day e of month n of year z: by the year, then by the month, then by the day
 unfoldable pub isLater : ℕ → ℕ → ℕ → ℕ → ℕ → ℕ → Bool
@@ -22,5 +22,5 @@ breaksOrder t first second r =
     isGiven (t .cells) (t .width) r first && (isGiven (t .cells) (t .width) r second && isAfter (dateIn t r first) (dateIn t r second))
 
 -- the first record that breaks it, from 1; 0 where none does
-unfoldable pub inOrder : Table → ℕ → ℕ → ℕ
-inOrder t first second = firstOf (breaksOrder (table (t .bytes) (t .cells) (t .width) 0) first second) (t .records)
+unfoldable pub datesInOrderRule : Table → ℕ → ℕ → ℕ
+datesInOrderRule t first second = firstThat (breaksOrder (table (t .bytes) (t .cells) (t .width) 0) first second) (t .records)

@@ -1,7 +1,7 @@
 // The rule over two Dates of a record: where both are given, the first is not after the second.
 ghost use mathlib.Core.Path.{_≡_};
 ghost use Rattle.rule_cells.specs.Cells.{table};
-ghost use Rattle.rule_dates.specs.Dates.{isLater, isAfter, breaksOrder, inOrder};
+ghost use Rattle.rule_dates.specs.Dates.{isLater, isAfter, breaksOrder, datesInOrderRule};
 use json_date::Date;
 use rule_cells::date_in;
 use rule_cells::is_given;
@@ -73,7 +73,7 @@ pub fn in_order(
     first: usize,
     second: usize,
 ) -> usize
-    ensures { λ x. ⌜ x ≡ inOrder (table (now (s .entry)) (now (cells .entry)) width records) first second ⌝ }
+    ensures { λ x. ⌜ x ≡ datesInOrderRule (table (now (s .entry)) (now (cells .entry)) width records) first second ⌝ }
 {
     let mut r = 0;
     while r < records {

@@ -12,8 +12,8 @@ use borrow.Author.Tests.{ltb-true, ltb-false, not-false}
 use Rattle.json_number.specs.declared.Sign.{Sign}
 use Rattle.json_number.specs.declared.Sign.the-variants.{Zero, Above, Below}
 use Rattle.rule_cells.proofs.First.{first-is-none}
-use Rattle.rule_cells.specs.Cells.{Table, table, isGiven, signIn, firstFrom, firstOf}
-use Rattle.rule_hours.specs.Hours.{fieldFrom, firstField, anyField, belowZero, aboveZero, isBelow, isAbove, isNull, breaks, noneBelow, someAbove, together}
+use Rattle.rule_cells.specs.Cells.{Table, table, isGiven, signIn, firstFrom, firstThat}
+use Rattle.rule_hours.specs.Hours.{fieldFrom, firstFieldThat, anyField, belowZero, aboveZero, isBelow, isAbove, isNull, breaks, noneBelowRule, someAboveRule, togetherRule}
 use Rattle.rule_hours.specs.declared.Shape.the-variants.{SomeBelow, NoneAbove, Mixed}
 
 -- ---- the first field that passes: what is left of the search at field k
@@ -65,26 +65,26 @@ module _ (test : ℕ → Bool) (to : ℕ) where
 
 module _ (test : ℕ → Bool) (from to : ℕ) where
   -- no field of the run before the first that passes does
-  pub before-first : (k : ℕ) → from ≤ k → k < firstField test from to → test k ≡ false
-  unfolding firstField
+  pub before-first : (k : ℕ) → from ≤ k → k < firstFieldThat test from to → test k ≡ false
+  unfolding firstFieldThat
   before-first k l m = from-before test to (to - from) from (omega arith) k l m
 
   -- where it is a field of the run, it passes
-  pub first-passes : firstField test from to < to → (from ≤ firstField test from to) × (test (firstField test from to) ≡ true)
-  unfolding firstField
+  pub first-passes : firstFieldThat test from to < to → (from ≤ firstFieldThat test from to) × (test (firstFieldThat test from to) ≡ true)
+  unfolding firstFieldThat
   first-passes m = from-passes test to (to - from) from m
 
   pub any-shows : anyField test from to ≡ true → (k : ℕ) × (from ≤ k) × (k < to) × (test k ≡ true)
   unfolding anyField
   any-shows e =
-      let m = ltb-true (firstField test from to) to e in
+      let m = ltb-true (firstFieldThat test from to) to e in
       let q = first-passes m in
-      (firstField test from to, q .0, m, q .1)
+      (firstFieldThat test from to, q .0, m, q .1)
 
   pub none-shows : anyField test from to ≡ false → (k : ℕ) → from ≤ k → k < to → test k ≡ false
   unfolding anyField
   none-shows e k l m =
-      let q = ltb-false (firstField test from to) to e in
+      let q = ltb-false (firstFieldThat test from to) to e in
       before-first k l (omega arith)
 
   pub shown-any : (k : ℕ) → from ≤ k → k < to → test k ≡ true → anyField test from to ≡ true
@@ -111,8 +111,8 @@ is-above Below e = absurd (clash false e refl)
 
 module _ (t : Table) (from to : ℕ) where
   -- 68 and 70 hold exactly if no field of the run is below zero in any record
-  pub none-below-says : (noneBelow t from to ≡ 0) ↔ ((r k : ℕ) → r < t .records → from ≤ k → k < to → signIn t r k ≡ Below → ⊥)
-  unfolding noneBelow breaks isBelow
+  pub none-below-says : (noneBelowRule t from to ≡ 0) ↔ ((r k : ℕ) → r < t .records → from ≤ k → k < to → signIn t r k ≡ Below → ⊥)
+  unfolding noneBelowRule breaks isBelow
   none-below-says =
       let none = first-is-none (breaks SomeBelow t from to) (t .records) in (
         λ z r k m a b e. clash (isBelow t r k) (ap belowZero e) (none-shows (isBelow t r) from to (none .0 z r m) k a b),
@@ -120,8 +120,8 @@ module _ (t : Table) (from to : ℕ) where
       )
 
   -- 69 holds exactly if each record has a field of the run that is above zero
-  pub some-above-says : (someAbove t from to ≡ 0) ↔ ((r : ℕ) → r < t .records → (k : ℕ) × (from ≤ k) × (k < to) × (signIn t r k ≡ Above))
-  unfolding someAbove breaks isAbove
+  pub some-above-says : (someAboveRule t from to ≡ 0) ↔ ((r : ℕ) → r < t .records → (k : ℕ) × (from ≤ k) × (k < to) × (signIn t r k ≡ Above))
+  unfolding someAboveRule breaks isAbove
   some-above-says =
       let none = first-is-none (breaks NoneAbove t from to) (t .records) in (
         λ z r m. (let w = any-shows (isAbove t r) from to (not-false _ (none .0 z r m)) in (w .0, w .1, w .2, is-above _ (w .3))),
@@ -156,8 +156,8 @@ module _ (given : ℕ → Bool) (from to : ℕ) where
 
 -- 75 holds exactly if in each record any two fields of the run are both given or both null
 module _ (cells : List ℕ) (width records from to : ℕ) where
-  pub together-says : (together cells width records from to ≡ 0) ↔ ((r j k : ℕ) → r < records → from ≤ j → j < to → from ≤ k → k < to → isGiven cells width r j ≡ isGiven cells width r k)
-  unfolding together breaks isNull mixed
+  pub together-says : (togetherRule cells width records from to ≡ 0) ↔ ((r j k : ℕ) → r < records → from ≤ j → j < to → from ≤ k → k < to → isGiven cells width r j ≡ isGiven cells width r k)
+  unfolding togetherRule breaks isNull mixed
   together-says =
       let none = first-is-none (breaks Mixed (table [] cells width records) from to) records in (
         λ z r j k m. one-kind (isGiven cells width r) from to (none .0 z r m) j k,

@@ -6,7 +6,7 @@ use mathlib.Core.List.{List, []}
 use lib.Dec.{ltb}
 use Rattle.json_number.specs.declared.Sign.{Sign}
 use Rattle.json_number.specs.declared.Sign.the-variants.{Zero, Above, Below}
-use Rattle.rule_cells.specs.Cells.{Table, table, isGiven, signIn, firstOf}
+use Rattle.rule_cells.specs.Cells.{Table, table, isGiven, signIn, firstThat}
 use Rattle.rule_hours.specs.declared.Shape.{Shape}
 use Rattle.rule_hours.specs.declared.Shape.the-variants.{SomeBelow, NoneAbove, Mixed, SomeNull, SomeGiven}
 
@@ -16,12 +16,12 @@ unfoldable pub fieldFrom : (ℕ → Bool) → ℕ → ℕ → ℕ → ℕ
 fieldFrom test to zero k = to
 fieldFrom test to (suc n) k = elim (test k) [ true ↦ k | false ↦ fieldFrom test to n (suc k) ]
 
-unfoldable pub firstField : (ℕ → Bool) → ℕ → ℕ → ℕ
-firstField test from to = fieldFrom test to (to - from) from
+unfoldable pub firstFieldThat : (ℕ → Bool) → ℕ → ℕ → ℕ
+firstFieldThat test from to = fieldFrom test to (to - from) from
 
 -- whether some field of the run passes it
 unfoldable pub anyField : (ℕ → Bool) → ℕ → ℕ → Bool
-anyField test from to = ltb (firstField test from to) to
+anyField test from to = ltb (firstFieldThat test from to) to
 
 -- ---- What is asked of field k of record r; "null is 0", which is neither below zero nor above it
 abbrev pub belowZero : Sign → Bool
@@ -53,21 +53,21 @@ breaks SomeNull t from to r = anyField (isNull (t .cells) (t .width) r) from to
 breaks SomeGiven t from to r = anyField (isGiven (t .cells) (t .width) r) from to
 
 -- 68: "no hours below zero"; 70: "hours not below zero"
-unfoldable pub noneBelow : Table → ℕ → ℕ → ℕ
-noneBelow t from to = firstOf (breaks SomeBelow t from to) (t .records)
+unfoldable pub noneBelowRule : Table → ℕ → ℕ → ℕ
+noneBelowRule t from to = firstThat (breaks SomeBelow t from to) (t .records)
 
 -- 69: "some hours above zero; null is 0"
-unfoldable pub someAbove : Table → ℕ → ℕ → ℕ
-someAbove t from to = firstOf (breaks NoneAbove t from to) (t .records)
+unfoldable pub someAboveRule : Table → ℕ → ℕ → ℕ
+someAboveRule t from to = firstThat (breaks NoneAbove t from to) (t .records)
 
 -- 75: "the five baseline and variance fields all null or none", which asks for no byte of the file
-unfoldable pub together : List ℕ → ℕ → ℕ → ℕ → ℕ → ℕ
-together cells width records from to = firstOf (breaks Mixed (table [] cells width records) from to) records
+unfoldable pub togetherRule : List ℕ → ℕ → ℕ → ℕ → ℕ → ℕ
+togetherRule cells width records from to = firstThat (breaks Mixed (table [] cells width records) from to) records
 
 -- document 02, order 8. 81: "all five baseline fields given"
-unfoldable pub allGiven : List ℕ → ℕ → ℕ → ℕ → ℕ → ℕ
-allGiven cells width records from to = firstOf (breaks SomeNull (table [] cells width records) from to) records
+unfoldable pub allGivenRule : List ℕ → ℕ → ℕ → ℕ → ℕ → ℕ
+allGivenRule cells width records from to = firstThat (breaks SomeNull (table [] cells width records) from to) records
 
 -- 82: "no ActualStartDate or ActualFinishDate"; 84: "no actual dollars or hours given". 0 is given.
-unfoldable pub noneGiven : List ℕ → ℕ → ℕ → ℕ → ℕ → ℕ
-noneGiven cells width records from to = firstOf (breaks SomeGiven (table [] cells width records) from to) records
+unfoldable pub noneGivenRule : List ℕ → ℕ → ℕ → ℕ → ℕ → ℕ
+noneGivenRule cells width records from to = firstThat (breaks SomeGiven (table [] cells width records) from to) records

@@ -1,8 +1,8 @@
 // Rules over the run of fields `from` to `to`, which is no part of it, of every record of a table:
 // hours beside zero, fields that are null together, and fields that are all given or none.
 ghost use mathlib.Core.Path.{_≡_};
-ghost use Rattle.rule_cells.specs.Cells.{table, isGiven, firstOf};
-ghost use Rattle.rule_hours.specs.Hours.{belowZero, aboveZero, firstField, anyField, isBelow, isNull, breaks, noneBelow, someAbove, together, allGiven, noneGiven};
+ghost use Rattle.rule_cells.specs.Cells.{table, isGiven, firstThat};
+ghost use Rattle.rule_hours.specs.Hours.{belowZero, aboveZero, firstFieldThat, anyField, isBelow, isNull, breaks, noneBelowRule, someAboveRule, togetherRule, allGivenRule, noneGivenRule};
 ghost use Rattle.rule_hours.specs.Asked.{passes};
 use json_number::Sign;
 use rule_cells::is_given;
@@ -69,7 +69,7 @@ fn first_field(
     to: usize,
     ask: Ask,
 ) -> usize
-    ensures { λ x. ⌜ x ≡ firstField (passes ask (table (now (s .entry)) (now (cells .entry)) width 0) r) from to ⌝ }
+    ensures { λ x. ⌜ x ≡ firstFieldThat (passes ask (table (now (s .entry)) (now (cells .entry)) width 0) r) from to ⌝ }
 {
     let mut k = from;
     while k < to {
@@ -132,7 +132,7 @@ fn first_broken(
     to: usize,
     shape: Shape,
 ) -> usize
-    ensures { λ x. ⌜ x ≡ firstOf (breaks shape (table (now (s .entry)) (now (cells .entry)) width 0) from to) records ⌝ }
+    ensures { λ x. ⌜ x ≡ firstThat (breaks shape (table (now (s .entry)) (now (cells .entry)) width 0) from to) records ⌝ }
 {
     let mut r = 0;
     while r < records {
@@ -153,7 +153,7 @@ pub fn none_below(
     from: usize,
     to: usize,
 ) -> usize
-    ensures { λ x. ⌜ x ≡ noneBelow (table (now (s .entry)) (now (cells .entry)) width records) from to ⌝ }
+    ensures { λ x. ⌜ x ≡ noneBelowRule (table (now (s .entry)) (now (cells .entry)) width records) from to ⌝ }
 {
     first_broken(s, cells, width, records, from, to, Shape::SomeBelow)
 }
@@ -167,49 +167,49 @@ pub fn some_above(
     from: usize,
     to: usize,
 ) -> usize
-    ensures { λ x. ⌜ x ≡ someAbove (table (now (s .entry)) (now (cells .entry)) width records) from to ⌝ }
+    ensures { λ x. ⌜ x ≡ someAboveRule (table (now (s .entry)) (now (cells .entry)) width records) from to ⌝ }
 {
     first_broken(s, cells, width, records, from, to, Shape::NoneAbove)
 }
 
 // The first record that gives some fields of the run and leaves others null.
 pub fn together(cells: &[u32], width: usize, records: usize, from: usize, to: usize) -> usize
-    ensures { λ x. ⌜ x ≡ together (now (cells .entry)) width records from to ⌝ }
+    ensures { λ x. ⌜ x ≡ togetherRule (now (cells .entry)) width records from to ⌝ }
 {
     first_broken(b"", cells, width, records, from, to, Shape::Mixed)
 }
 
 // The first record that leaves a field of the run null.
 pub fn all_given(cells: &[u32], width: usize, records: usize, from: usize, to: usize) -> usize
-    ensures { λ x. ⌜ x ≡ allGiven (now (cells .entry)) width records from to ⌝ }
+    ensures { λ x. ⌜ x ≡ allGivenRule (now (cells .entry)) width records from to ⌝ }
 {
     first_broken(b"", cells, width, records, from, to, Shape::SomeNull)
 }
 
 // The first record that gives a field of the run.
 pub fn none_given(cells: &[u32], width: usize, records: usize, from: usize, to: usize) -> usize
-    ensures { λ x. ⌜ x ≡ noneGiven (now (cells .entry)) width records from to ⌝ }
+    ensures { λ x. ⌜ x ≡ noneGivenRule (now (cells .entry)) width records from to ⌝ }
 {
     first_broken(b"", cells, width, records, from, to, Shape::SomeGiven)
 }
 
 // The first field of record r in the run that is below zero; `to` for none.
 pub fn first_below(s: &[u8], cells: &[u32], width: usize, r: usize, from: usize, to: usize) -> usize
-    ensures { λ x. ⌜ x ≡ firstField (isBelow (table (now (s .entry)) (now (cells .entry)) width 0) r) from to ⌝ }
+    ensures { λ x. ⌜ x ≡ firstFieldThat (isBelow (table (now (s .entry)) (now (cells .entry)) width 0) r) from to ⌝ }
 {
     first_field(s, cells, width, r, from, to, Ask::Negative)
 }
 
 // The first field of record r in the run that is null; `to` for none.
 pub fn first_null(cells: &[u32], width: usize, r: usize, from: usize, to: usize) -> usize
-    ensures { λ x. ⌜ x ≡ firstField (isNull (now (cells .entry)) width r) from to ⌝ }
+    ensures { λ x. ⌜ x ≡ firstFieldThat (isNull (now (cells .entry)) width r) from to ⌝ }
 {
     first_field(b"", cells, width, r, from, to, Ask::Null)
 }
 
 // The first field of record r in the run that is given; `to` for none.
 pub fn first_given(cells: &[u32], width: usize, r: usize, from: usize, to: usize) -> usize
-    ensures { λ x. ⌜ x ≡ firstField (isGiven (now (cells .entry)) width r) from to ⌝ }
+    ensures { λ x. ⌜ x ≡ firstFieldThat (isGiven (now (cells .entry)) width r) from to ⌝ }
 {
     first_field(b"", cells, width, r, from, to, Ask::Given)
 }

@@ -14,7 +14,7 @@ use Rattle.json_number.specs.declared.Integer.{Integer}
 use Rattle.json_number.specs.declared.Integer.the-variants.{Is, Fraction, TooLarge}
 use Rattle.json_number.proofs.Integer.{the-type}
 use Rattle.json_date.specs.declared.Date.{Date}
-use Rattle.rule_cells.specs.Cells.{Table, table, textOf, sameText, integerIn, dateIn, firstFrom, firstOf}
+use Rattle.rule_cells.specs.Cells.{Table, table, textOf, sameText, integerIn, dateIn, firstFrom, firstThat}
 use Rattle.rule_cells.proofs.Laws.{search-hits, search-goes-on, search-ends}
 use Rattle.rule_key.specs.declared.Key.{Key}
 use Rattle.rule_key.specs.Key.{sameInteger, sameDate, sameField, sameKey, earliest, repeats, keyRule}
@@ -73,7 +73,7 @@ module _ (t : Table) (key : Key) (i j : ℕ) where
   same-ends = search-ends (λ (x : ℕ). sameKey t key x i) i j
 
 pub same-starts : (t : Table) (key : Key) (i : ℕ) → earliest t key i ≡ earliestFrom t key i 0
-unfolding earliest firstOf
+unfolding earliest firstThat
 same-starts t key i = rw sub-zero
 
 -- how many records there are is no matter for it
@@ -85,17 +85,17 @@ earliest-any s cells width n i key = refl
 abbrev pub ruleFrom : Table → Key → ℕ → ℕ
 ruleFrom t key i = firstFrom (repeats t key) (t .records - i) i
 
-pub rule-starts : (t : Table) (key : Key) → firstOf (repeats t key) (t .records) ≡ ruleFrom t key 0
-unfolding firstOf
+pub rule-starts : (t : Table) (key : Key) → firstThat (repeats t key) (t .records) ≡ ruleFrom t key 0
+unfolding firstThat
 rule-starts t key = rw sub-zero
 
 -- the answer, by what the search finds
-pub rule-is : (t : Table) (key : Key) (r e : ℕ) → firstOf (repeats t key) (t .records) ≡ r → earliest t key (r - 1) ≡ e → keyRule t key ≡ record { «record» = r; same = e }
+pub rule-is : (t : Table) (key : Key) (r e : ℕ) → firstThat (repeats t key) (t .records) ≡ r → earliest t key (r - 1) ≡ e → keyRule t key ≡ record { «record» = r; same = e }
 unfolding keyRule
 rule-is t key r e p q = rw (p, q)
 
 module _ (t : Table) (key : Key) (i e : ℕ) where
-  pub rule-hits : i < t .records → firstOf (repeats t key) (t .records) ≡ ruleFrom t key i → e ≡ earliest t key i → 0 < e → keyRule t key ≡ record { «record» = i + 1; same = e }
+  pub rule-hits : i < t .records → firstThat (repeats t key) (t .records) ≡ ruleFrom t key i → e ≡ earliest t key i → 0 < e → keyRule t key ≡ record { «record» = i + 1; same = e }
   unfolding repeats
   rule-hits l v p h =
       let z : (i + 1) - 1 ≡ i = omega arith in
@@ -105,6 +105,6 @@ module _ (t : Table) (key : Key) (i e : ℕ) where
   unfolding repeats
   rule-goes-on l p h = search-goes-on (repeats t key) (t .records) i l (rw (← p) (le-ltb 0 e h))
 
-pub rule-ends : (t : Table) (key : Key) (i : ℕ) → t .records ≤ i → firstOf (repeats t key) (t .records) ≡ ruleFrom t key i → keyRule t key ≡ record { «record» = 0; same = 0 }
-unfolding earliest firstOf firstFrom
+pub rule-ends : (t : Table) (key : Key) (i : ℕ) → t .records ≤ i → firstThat (repeats t key) (t .records) ≡ ruleFrom t key i → keyRule t key ≡ record { «record» = 0; same = 0 }
+unfolding earliest firstThat firstFrom
 rule-ends t key i l v = rule-is t key 0 0 (v ∙ search-ends (repeats t key) (t .records) i l) refl

@@ -17,7 +17,7 @@ use Rattle.json_date.specs.declared.Date.the-variants.{Day, NoDate}
 use Rattle.json_same.specs.Same.{sameAs}
 use Rattle.json_same.specs.declared.Case.the-variants.{Folded}
 use Rattle.json_same.proofs.Laws.{same-sym}
-use Rattle.rule_cells.specs.Cells.{Table, textOf, sameText, integerIn, dateIn, firstFrom, firstOf}
+use Rattle.rule_cells.specs.Cells.{Table, textOf, sameText, integerIn, dateIn, firstFrom, firstThat}
 use Rattle.rule_key.specs.declared.Key.{Key}
 use Rattle.rule_key.specs.Key.{sameInteger, sameDate, sameField, sameKey, earliest, repeats, keyRule}
 use Rattle.rule_key.proofs.Compare.{rule-is}
@@ -99,12 +99,12 @@ module _ (t : Table) (key : Key) where
 
 -- and then it names no other record either
 none-before-first : (t : Table) (key : Key) (r : ℕ) → r ≡ 0 → earliest t key (r - 1) ≡ 0
-unfolding earliest firstOf firstFrom
+unfolding earliest firstThat firstFrom
 none-before-first t key r e = rw e
 
 pub holds-names-none : (t : Table) (key : Key) → keyRule t key .«record» ≡ 0 → keyRule t key .same ≡ 0
 unfolding keyRule
-holds-names-none t key e = none-before-first t key (firstOf (repeats t key) (t .records)) e
+holds-names-none t key e = none-before-first t key (firstThat (repeats t key) (t .records)) e
 
 -- ---- Where it breaks: record i has the key of record e, both counted from 0
 pub record Repeat (t : Table) (key : Key) (i e : ℕ) : Type 0 where
@@ -143,7 +143,7 @@ module _ (t : Table) (key : Key) where
   pub breaks-repeat : (i : ℕ) → keyRule t key .«record» ≡ i + 1 → (e : ℕ) × ((keyRule t key .same ≡ e + 1) × Repeat t key i e)
   unfolding keyRule repeats
   breaks-repeat i h =
-      let p : firstOf (repeats t key) (t .records) ≡ suc i = h ∙ add-one i in
+      let p : firstThat (repeats t key) (t .records) ≡ suc i = h ∙ add-one i in
       let f : First (repeats t key) (t .records) 0 i = first-found (repeats t key) (t .records) i p in
       let l : 0 < earliest t key i = ltb-true 0 (earliest t key i) (f .here) in
       let z : suc i - 1 ≡ i = omega arith in

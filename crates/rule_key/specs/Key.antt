@@ -7,7 +7,7 @@ use Rattle.json_number.specs.declared.Integer.{Integer}
 use Rattle.json_number.specs.declared.Integer.the-variants.{Is, Fraction, TooLarge}
 use Rattle.json_date.specs.declared.Date.{Date}
 use Rattle.json_date.specs.declared.Date.the-variants.{Day, NoDate}
-use Rattle.rule_cells.specs.Cells.{Table, sameText, integerIn, dateIn, firstOf}
+use Rattle.rule_cells.specs.Cells.{Table, sameText, integerIn, dateIn, firstThat}
 use Rattle.rule_key.specs.declared.Key.{Key}
 use Rattle.rule_key.specs.declared.KeyBreak.{KeyBreak}
 
@@ -41,7 +41,7 @@ sameKey t key i j =
 -- ---- The rule
 -- the earliest record before i that has i's key, counted from 1; 0 for none
 unfoldable pub earliest : Table → Key → ℕ → ℕ
-earliest t key i = firstOf (λ j. sameKey t key j i) i
+earliest t key i = firstThat (λ j. sameKey t key j i) i
 
 -- "a record whose key equals an earlier one's"
 unfoldable pub repeats : Table → Key → ℕ → Bool
@@ -50,5 +50,5 @@ repeats t key i = ltb 0 (earliest t key i)
 -- the first such record and the earliest with its key, both counted from 1; 0 and 0 where there is none
 unfoldable pub keyRule : Table → Key → KeyBreak
 keyRule t key =
-    let first = firstOf (repeats t key) (t .records) in
+    let first = firstThat (repeats t key) (t .records) in
     record { «record» = first; same = earliest t key (first - 1) }

@@ -7,7 +7,7 @@ use mathlib.Core.Bool.{Bool, true, false, true≢false}
 use mathlib.Core.Logic.{_↔_}
 use native.Mathlib.Numerals.{add-one}
 use native.Mathlib.Omega.{arith}
-use Rattle.rule_cells.specs.Cells.{firstOf}
+use Rattle.rule_cells.specs.Cells.{firstThat}
 use Rattle.rule_cells.proofs.First.{First, first-found, found-first, first-is-none}
 use Rattle.rule_meaning.specs.Keeps.{Answers}
 
@@ -40,7 +40,7 @@ module _ (breaks : ℕ → Bool) (Keeps : ℕ → Type 0) (told : (r : ℕ) → 
     before = λ j o l. told j .1 (h .2 j l);
   }
 
-  pub answers : Answers Keeps n (firstOf breaks n)
+  pub answers : Answers Keeps n (firstThat breaks n)
   answers =
       let none = first-is-none breaks n in
       record {

@@ -10,7 +10,7 @@ use lib.Dec.{ltb, eqb}
 use Rattle.json_date.specs.declared.Date.{Date}
 use Rattle.json_date.specs.declared.Date.the-variants.{Day, NoDate}
 use Rattle.rule_cells.specs.Cells.{Table, table, isGiven, dateIn, textOf}
-use Rattle.rule_dates.specs.Dates.{isLater, isAfter, breaksOrder, inOrder}
+use Rattle.rule_dates.specs.Dates.{isLater, isAfter, breaksOrder, datesInOrderRule}
 use Rattle.rule_meaning.specs.Keeps.{Answers, After, LaterYear, LaterMonth, LaterDay, DatesInOrder}
 use Rattle.rule_meaning.proofs.Answers.{answers, not-true-false, never-both}
 use Rattle.rule_meaning.proofs.Values.{and-and}
@@ -38,8 +38,8 @@ after-shows (Day y m d) NoDate h = absurd (never-both h refl)
 after-shows NoDate b h = absurd (never-both h refl)
 
 -- ---- Mark 83 holds exactly if no record gives both Dates with the first after the second, and else names the first that does
-pub in-order-means : (t : Table) (first second : ℕ) → Answers (DatesInOrder t first second) (t .records) (inOrder t first second)
-unfolding inOrder breaksOrder dateIn textOf
+pub in-order-means : (t : Table) (first second : ℕ) → Answers (DatesInOrder t first second) (t .records) (datesInOrderRule t first second)
+unfolding datesInOrderRule breaksOrder dateIn textOf
 in-order-means t first second = answers _ (DatesInOrder t first second) told (t .records)
   where
     told : (r : ℕ) → (breaksOrder (table (t .bytes) (t .cells) (t .width) 0) first second r ≡ false) ↔ DatesInOrder t first second r

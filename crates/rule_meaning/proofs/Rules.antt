@@ -14,7 +14,7 @@ use Rattle.table_rows.specs.Rows.{valueTextAt}
 use Rattle.rule_cells.specs.Cells.{Table, isGiven, signIn}
 use Rattle.rule_when.specs.When.{holdsWhen}
 use Rattle.rule_when.specs.declared.When.{When}
-use Rattle.rule_hours.specs.Hours.{firstField, anyField, belowZero, isBelow, isNull}
+use Rattle.rule_hours.specs.Hours.{firstFieldThat, anyField, belowZero, isBelow, isNull}
 use Rattle.rule_hours.proofs.Laws.{before-first, first-passes, none-shows}
 use Rattle.rule_outline.specs.declared.Outline.{Outline}
 use Rattle.rule_shape.specs.declared.Rule.{Rule}
@@ -33,15 +33,15 @@ use Rattle.rule_meaning.proofs.Parents.{parent-means, parent-type-means
 use Rattle.rule_meaning.proofs.Trees.{tree-levels-mean, tree-parents-mean, leaves-mean, no-leaf}
 
 -- ---- The first field of a run that passes a test, where some field does
-first-of-run : (test : ℕ → Bool) (Asked : ℕ → Type 0) (from to : ℕ) → ((k : ℕ) → (test k ≡ true) ↔ Asked k) → anyField test from to ≡ true → FirstOfRun Asked from to (firstField test from to)
+first-of-run : (test : ℕ → Bool) (Asked : ℕ → Type 0) (from to : ℕ) → ((k : ℕ) → (test k ≡ true) ↔ Asked k) → anyField test from to ≡ true → FirstOfRun Asked from to (firstFieldThat test from to)
 unfolding anyField
 first-of-run test Asked from to tells e =
-    let m : firstField test from to < to = ltb-true (firstField test from to) to e in
+    let m : firstFieldThat test from to < to = ltb-true (firstFieldThat test from to) to e in
     let q = first-passes test from to m in
     record {
       starts = q .0;
       inside = m;
-      here = tells (firstField test from to) .0 (q .1);
+      here = tells (firstFieldThat test from to) .0 (q .1);
       before = λ j l u asked. never-both (tells j .1 asked) (before-first test from to j l u);
     }
 
@@ -96,7 +96,7 @@ module _ (places texts : List ℕ) (t u : Table) (few : t .records ≤ 4096) whe
   -- the deciding field of a broken rule
   module _ (r : ℕ) where
     -- where not all fields of a run are given, some is null
-    first-null : (from to : ℕ) → (AllAreGiven t from to r → ⊥) → FirstOfRun (λ (j : ℕ). IsNull t j r) from to (firstField (isNull (t .cells) (t .width) r) from to)
+    first-null : (from to : ℕ) → (AllAreGiven t from to r → ⊥) → FirstOfRun (λ (j : ℕ). IsNull t j r) from to (firstFieldThat (isNull (t .cells) (t .width) r) from to)
     unfolding isNull
     first-null from to broken =
         first-of-run (isNull (t .cells) (t .width) r) (λ (j : ℕ). IsNull t j r) from to (λ k. null-told (isGiven (t .cells) (t .width) r k))

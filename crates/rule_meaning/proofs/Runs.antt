@@ -9,7 +9,7 @@ use Rattle.rule_cells.specs.Cells.{Table, isGiven, signIn}
 use Rattle.rule_key.specs.declared.Key.{Key}
 use Rattle.rule_key.specs.Key.{sameKey, repeats, keyRule}
 use Rattle.rule_key.proofs.Laws.{repeats-none, none-repeats}
-use Rattle.rule_hours.specs.Hours.{anyField, belowZero, aboveZero, isBelow, isAbove, isNull, breaks, noneBelow, someAbove, together, allGiven, noneGiven}
+use Rattle.rule_hours.specs.Hours.{anyField, belowZero, aboveZero, isBelow, isAbove, isNull, breaks, noneBelowRule, someAboveRule, togetherRule, allGivenRule, noneGivenRule}
 use Rattle.rule_hours.proofs.Laws.{any-shows, none-shows, shown-any, shown-none, other-than-below, is-above}
 use Rattle.rule_meaning.specs.Keeps.{Answers, HasItsOwnKey, NoneIsBelow, SomeIsAbove, NoneIsGiven, AllAreGiven, AllNullOrNone}
 use Rattle.rule_meaning.proofs.Answers.{answers, not-true-false, never-both}
@@ -27,8 +27,8 @@ key-means t key = answers (repeats t key) (HasItsOwnKey t key) told (t .records)
 
 module _ (t : Table) (from to : ℕ) where
   -- ---- Marks 68 and 70 hold exactly if no record has hours below zero, and else name the first that has
-  pub none-below-means : Answers (NoneIsBelow t from to) (t .records) (noneBelow t from to)
-  unfolding noneBelow breaks isBelow
+  pub none-below-means : Answers (NoneIsBelow t from to) (t .records) (noneBelowRule t from to)
+  unfolding noneBelowRule breaks isBelow
   none-below-means = answers _ (NoneIsBelow t from to) told (t .records)
     where
       told : (r : ℕ) → (anyField (isBelow t r) from to ≡ false) ↔ NoneIsBelow t from to r
@@ -38,8 +38,8 @@ module _ (t : Table) (from to : ℕ) where
       )
 
   -- ---- Mark 69 holds exactly if every record has some hours above zero, and else names the first that has none
-  pub some-above-means : Answers (SomeIsAbove t from to) (t .records) (someAbove t from to)
-  unfolding someAbove breaks isAbove
+  pub some-above-means : Answers (SomeIsAbove t from to) (t .records) (someAboveRule t from to)
+  unfolding someAboveRule breaks isAbove
   some-above-means = answers _ (SomeIsAbove t from to) told (t .records)
     where
       told : (r : ℕ) → (not (anyField (isAbove t r) from to) ≡ false) ↔ SomeIsAbove t from to r
@@ -64,13 +64,13 @@ module _ (t : Table) (from to : ℕ) where
     )
 
   -- ---- Mark 81 holds exactly if every record gives all fields of the run, and else names the first that does not
-  pub all-given-means : Answers (AllAreGiven t from to) (t .records) (allGiven (t .cells) (t .width) (t .records) from to)
-  unfolding allGiven breaks
+  pub all-given-means : Answers (AllAreGiven t from to) (t .records) (allGivenRule (t .cells) (t .width) (t .records) from to)
+  unfolding allGivenRule breaks
   all-given-means = answers _ (AllAreGiven t from to) all-given-told (t .records)
 
   -- ---- Marks 82 and 84 hold exactly if no record gives any field of the run, and else name the first that does
-  pub none-given-means : Answers (NoneIsGiven t from to) (t .records) (noneGiven (t .cells) (t .width) (t .records) from to)
-  unfolding noneGiven breaks
+  pub none-given-means : Answers (NoneIsGiven t from to) (t .records) (noneGivenRule (t .cells) (t .width) (t .records) from to)
+  unfolding noneGivenRule breaks
   none-given-means = answers _ (NoneIsGiven t from to) none-given-told (t .records)
 
   -- ---- Mark 75 holds exactly if every record has all fields of the run null or none, and else names the first that has not
@@ -95,6 +95,6 @@ module _ (t : Table) (from to : ℕ) where
     not-mixed =
         ⊎-elim (λ none. rw (none-given-told r .1 none)) (λ all. and-none some-given some-null (all-given-told r .1 all))
 
-  pub together-means : Answers (AllNullOrNone t from to) (t .records) (together (t .cells) (t .width) (t .records) from to)
-  unfolding together breaks some-given some-null
+  pub together-means : Answers (AllNullOrNone t from to) (t .records) (togetherRule (t .cells) (t .width) (t .records) from to)
+  unfolding togetherRule breaks some-given some-null
   together-means = answers _ (AllNullOrNone t from to) (λ r. (one-kind r (some-given r) refl, not-mixed r)) (t .records)

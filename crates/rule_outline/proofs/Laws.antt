@@ -18,7 +18,7 @@ use Rattle.json_number.specs.declared.Value.{Value}
 use Rattle.json_number.specs.declared.Value.the-variants.{Fits, Beyond}
 use Rattle.json_number.specs.declared.Integer.{Integer}
 use Rattle.json_number.specs.declared.Integer.the-variants.{Is, Fraction, TooLarge}
-use Rattle.rule_cells.specs.Cells.{Table, table, isGiven, startOf, integerIn, textOf, sameText, firstFrom, firstOf}
+use Rattle.rule_cells.specs.Cells.{Table, table, isGiven, startOf, integerIn, textOf, sameText, firstFrom, firstThat}
 use Rattle.rule_cells.proofs.Laws.{search-hits, search-goes-on, search-ends}
 use Rattle.rule_outline.specs.Outline.{
   levelZero,
@@ -28,7 +28,7 @@ use Rattle.rule_outline.specs.Outline.{
   lowerBefore,
   parentBy,
   parentsUpTo,
-  hasRoom,
+  parentsHaveRoom,
   withParents,
   runBreaks,
   levelBreaks,
@@ -149,7 +149,7 @@ module _ (levels : ℕ → ℕ) where
 module _ (s cells : List ℕ) (width n level : ℕ) where
   -- how many records there are plays no part in a Level
   pub level-rule-starts : levelRule (table s cells width n) level ≡ firstFrom (levelBreaks (levelOf (table s cells width 0) level)) (n - 0) 0
-  unfolding levelRule levelOf integerIn firstOf
+  unfolding levelRule levelOf integerIn firstThat
   level-rule-starts = rw (sub-zero n)
 
 -- ---- The way from parent to parent
@@ -208,16 +208,16 @@ module _ (levels : ℕ → ℕ) (old list : List ℕ) (r : ℕ) (isList : list �
       ∙ rw (add-one r, e) (sym (append-snoc (parentsUpTo levels r) (parentBy levels r) (drop (suc r) old))))
 
 module _ (s cells : List ℕ) (width n level : ℕ) (list : List ℕ) where
-  pub no-room-over : 4096 < n → (false ≡ hasRoom n list) × (list ≡ withParents (table s cells width n) level list)
-  unfolding withParents hasRoom
+  pub no-room-over : 4096 < n → (false ≡ parentsHaveRoom n list) × (list ≡ withParents (table s cells width n) level list)
+  unfolding withParents parentsHaveRoom
   no-room-over h = (rw (lt-leb n 4096 h), rw (lt-leb n 4096 h))
 
-  pub no-room-short : n ≤ 4096 → length list < n → (false ≡ hasRoom n list) × (list ≡ withParents (table s cells width n) level list)
-  unfolding withParents hasRoom
+  pub no-room-short : n ≤ 4096 → length list < n → (false ≡ parentsHaveRoom n list) × (list ≡ withParents (table s cells width n) level list)
+  unfolding withParents parentsHaveRoom
   no-room-short g h = (rw (le-leb n 4096 g, lt-leb n (length list) h), rw (le-leb n 4096 g, lt-leb n (length list) h))
 
-  pub all-filled : (l : List ℕ) (r : ℕ) → n ≤ 4096 → n ≤ length list → n ≤ r → r ≤ n → l ≡ parentsUpTo (levelOf (table s cells width 0) level) r ++ drop r list → (true ≡ hasRoom n list) × (l ≡ withParents (table s cells width n) level list)
-  unfolding withParents hasRoom levelOf integerIn
+  pub all-filled : (l : List ℕ) (r : ℕ) → n ≤ 4096 → n ≤ length list → n ≤ r → r ≤ n → l ≡ parentsUpTo (levelOf (table s cells width 0) level) r ++ drop r list → (true ≡ parentsHaveRoom n list) × (l ≡ withParents (table s cells width n) level list)
+  unfolding withParents parentsHaveRoom levelOf integerIn
   all-filled l r g h p q e =
       let z : r ≡ n = omega arith in
       (rw (le-leb n 4096 g, le-leb n (length list) h), rw (le-leb n 4096 g, le-leb n (length list) h) (rw z at e))
@@ -243,17 +243,17 @@ module _ (s cells : List ℕ) (width n level task : ℕ) (parents : ℕ → ℕ)
   outline-records (suc r) = refl
 
   pub parent-rule-starts : (parent : ℕ) → parentRule (table s cells width n) level task parent parents ≡ outlineAt (table s cells width 0) level parents (firstFrom (parentBreaks (table s cells width 0) level task parent parents) (n - 0) 0)
-  unfolding parentRule firstOf parentBreaks sameText textOf levelOf integerIn
+  unfolding parentRule firstThat parentBreaks sameText textOf levelOf integerIn
   parent-rule-starts parent = outline-records _ ∙ rw (sub-zero n)
 
   pub parent-type-rule-starts : (u : Table) (id type : ℕ) (word : List ℕ) → parentTypeRule (table s cells width n) level task parents u id type word ≡ outlineAt (table s cells width 0) level parents (firstFrom (parentTypeBreaks (table s cells width 0) level task parents u id type word) (n - 0) 0)
-  unfolding parentTypeRule firstOf parentTypeBreaks isTyped sameText textOf levelOf integerIn
+  unfolding parentTypeRule firstThat parentTypeBreaks isTyped sameText textOf levelOf integerIn
   parent-type-rule-starts u id type word = outline-records _ ∙ rw (sub-zero n)
 
 -- ---- Some record of a table
 module _ (holds : ℕ → Bool) (n q : ℕ) where
   pub some-starts : someOf holds n ≡ ltb 0 (firstFrom holds (n - 0) 0)
-  unfolding someOf firstOf
+  unfolding someOf firstThat
   some-starts = rw (sub-zero n)
 
   pub some-hits : {b : Bool} → q < n → b ≡ holds q → b ≡ true → ltb 0 (firstFrom holds (n - q) q) ≡ true

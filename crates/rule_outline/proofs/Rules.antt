@@ -8,13 +8,13 @@ use native.Mathlib.Omega.{arith}
 use borrow.Author.Tests.{lt-ltb}
 use lib.Dec.{ltb}
 use lib.ListN.{drop, List·getD-append}
-use Rattle.rule_cells.specs.Cells.{Table, firstOf}
+use Rattle.rule_cells.specs.Cells.{Table, firstThat}
 use Rattle.rule_cells.proofs.First.{First, first-found, found-first, first-none, none-first}
 use Rattle.rule_outline.specs.Outline.{
   levelOf,
   parentOf,
   parentsUpTo,
-  hasRoom,
+  parentsHaveRoom,
   withParents,
   heldIn,
   parentShown,
@@ -28,10 +28,10 @@ use Rattle.rule_outline.specs.Outline.{
 use Rattle.rule_outline.proofs.Parents.{parents-length, parents-at}
 
 -- ---- The first breaking record depends on what each of the records does, and on nothing else
-pub first-same : (f g : ℕ → Bool) (n : ℕ) → ((r : ℕ) → r < n → f r ≡ g r) → firstOf f n ≡ firstOf g n
-first-same f g n h = told (firstOf f n) refl
+pub first-same : (f g : ℕ → Bool) (n : ℕ) → ((r : ℕ) → r < n → f r ≡ g r) → firstThat f n ≡ firstThat g n
+first-same f g n h = told (firstThat f n) refl
   where
-    told : (k : ℕ) → firstOf f n ≡ k → firstOf f n ≡ firstOf g n
+    told : (k : ℕ) → firstThat f n ≡ k → firstThat f n ≡ firstThat g n
     told zero e = e ∙ sym (none-first g n (λ r l. sym (h r l) ∙ first-none f n e r l))
     told (suc r) e =
         let w : First f n 0 r = first-found f n r e in
@@ -49,9 +49,9 @@ first-same f g n h = told (firstOf f n) refl
 module _ (holds : ℕ → Bool) (n : ℕ) where
   pub some-there : (q : ℕ) → q < n → holds q ≡ true → someOf holds n ≡ true
   unfolding someOf
-  some-there q l e = told (firstOf holds n) refl
+  some-there q l e = told (firstThat holds n) refl
     where
-      told : (k : ℕ) → firstOf holds n ≡ k → ltb 0 (firstOf holds n) ≡ true
+      told : (k : ℕ) → firstThat holds n ≡ k → ltb 0 (firstThat holds n) ≡ true
       told zero z =
           let b : holds q ≡ false = first-none holds n z q l in
           let s : _≡_ {A = ℕ} 0 1 = cc in
@@ -60,9 +60,9 @@ module _ (holds : ℕ → Bool) (n : ℕ) where
 
   pub some-is-there : someOf holds n ≡ true → (q : ℕ) × (q < n) × (holds q ≡ true)
   unfolding someOf
-  some-is-there e = told (firstOf holds n) refl
+  some-is-there e = told (firstThat holds n) refl
     where
-      told : (k : ℕ) → firstOf holds n ≡ k → (q : ℕ) × (q < n) × (holds q ≡ true)
+      told : (k : ℕ) → firstThat holds n ≡ k → (q : ℕ) × (q < n) × (holds q ≡ true)
       told zero z =
           let b : false ≡ true = rw z at e in
           let s : _≡_ {A = ℕ} 0 1 = cc in
@@ -78,9 +78,9 @@ module _ (t : Table) (level : ℕ) (p q : ℕ → ℕ) where
   outline-same zero h = refl
   outline-same (suc r) h = rw (h r refl)
 
-  first-outline-same : (f g : ℕ → Bool) → ((r : ℕ) → r < t .records → p r ≡ q r) → ((r : ℕ) → p r ≡ q r → f r ≡ g r) → outlineAt t level p (firstOf f (t .records)) ≡ outlineAt t level q (firstOf g (t .records))
+  first-outline-same : (f g : ℕ → Bool) → ((r : ℕ) → r < t .records → p r ≡ q r) → ((r : ℕ) → p r ≡ q r → f r ≡ g r) → outlineAt t level p (firstThat f (t .records)) ≡ outlineAt t level q (firstThat g (t .records))
   first-outline-same f g agree alike =
-      outline-same (firstOf f (t .records)) (λ r e. agree r (omega (arith, first-found f (t .records) r e .inside)))
+      outline-same (firstThat f (t .records)) (λ r e. agree r (omega (arith, first-found f (t .records) r e .inside)))
       ∙ ap (outlineAt t level q) (first-same f g (t .records) (λ r l. alike r (agree r l)))
 
   module _ (agree : (r : ℕ) → r < t .records → p r ≡ q r) (task : ℕ) where
@@ -101,7 +101,7 @@ module _ (t : Table) (level : ℕ) (p q : ℕ → ℕ) where
         alike r e = rw e
 
 -- ---- A filled list has the parents
-module _ (t : Table) (level : ℕ) (list : List ℕ) (room : hasRoom (t .records) list ≡ true) where
+module _ (t : Table) (level : ℕ) (list : List ℕ) (room : parentsHaveRoom (t .records) list ≡ true) where
   pub filled-holds : (r : ℕ) → r < t .records → heldIn (withParents t level list) r ≡ parentOf t level r
   unfolding heldIn withParents
   filled-holds r l =

@@ -7,7 +7,7 @@ use lib.ListN.{length, getD, drop}
 use lib.Dec.{ltb, leb, eqb}
 use Rattle.json_number.specs.declared.Integer.{Integer}
 use Rattle.json_number.specs.declared.Integer.the-variants.{Is, Fraction, TooLarge}
-use Rattle.rule_cells.specs.Cells.{Table, isGiven, sameText, isWord, integerIn, firstOf}
+use Rattle.rule_cells.specs.Cells.{Table, isGiven, sameText, isWord, integerIn, firstThat}
 use Rattle.rule_outline.specs.declared.Outline.{Outline}
 
 -- ---- Levels
@@ -47,13 +47,13 @@ parentsUpTo levels zero = []
 parentsUpTo levels (suc n) = parentsUpTo levels n ++ (parentBy levels n ∷ [])
 
 -- a lent list has room for the parents of n records; no table has over 4,096
-unfoldable pub hasRoom : ℕ → List ℕ → Bool
-hasRoom n list = leb n 4096 && leb n (length list)
+unfoldable pub parentsHaveRoom : ℕ → List ℕ → Bool
+parentsHaveRoom n list = leb n 4096 && leb n (length list)
 
 -- the list with the parents of a table's records at its front, and as it was without room for them
 unfoldable pub withParents : Table → ℕ → List ℕ → List ℕ
 withParents t level list =
-    cond (hasRoom (t .records) list) (parentsUpTo (levelOf t level) (t .records) ++ drop (t .records) list) list
+    cond (parentsHaveRoom (t .records) list) (parentsUpTo (levelOf t level) (t .records) ++ drop (t .records) list) list
 
 -- the parent that a list has for record r
 unfoldable pub heldIn : List ℕ → ℕ → ℕ
@@ -68,7 +68,7 @@ levelBreaks levels zero = not (eqb (levels 0) levelOne)
 levelBreaks levels (suc r) = runBreaks (levels r) (levels (suc r))
 
 unfoldable pub levelRule : Table → ℕ → ℕ
-levelRule t level = firstOf (levelBreaks (levelOf t level)) (t .records)
+levelRule t level = firstThat (levelBreaks (levelOf t level)) (t .records)
 
 -- ---- What marks 79 and 80 answer, over the parents of the records: with `parentOf t level`, document 01's
 -- the breaking record, and its parent: 0 where it has none, or is of Level 1
@@ -88,11 +88,11 @@ parentBreaks t level task parent parents r =
 
 unfoldable pub parentRule : Table → ℕ → ℕ → ℕ → (ℕ → ℕ) → Outline
 parentRule t level task parent parents =
-    outlineAt t level parents (firstOf (parentBreaks t level task parent parents) (t .records))
+    outlineAt t level parents (firstThat (parentBreaks t level task parent parents) (t .records))
 
 -- some of n records
 unfoldable pub someOf : (ℕ → Bool) → ℕ → Bool
-someOf holds n = ltb 0 (firstOf holds n)
+someOf holds n = ltb 0 (firstThat holds n)
 
 -- task q has the TaskID of record p, and the type that a word names
 unfoldable pub isTyped : Table → ℕ → ℕ → Table → ℕ → ℕ → List ℕ → ℕ → Bool
@@ -106,4 +106,4 @@ parentTypeBreaks t level task parents u id type word r =
 
 unfoldable pub parentTypeRule : Table → ℕ → ℕ → (ℕ → ℕ) → Table → ℕ → ℕ → List ℕ → Outline
 parentTypeRule t level task parents u id type word =
-    outlineAt t level parents (firstOf (parentTypeBreaks t level task parents u id type word) (t .records))
+    outlineAt t level parents (firstThat (parentTypeBreaks t level task parents u id type word) (t .records))

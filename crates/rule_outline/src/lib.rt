@@ -4,7 +4,7 @@
 ghost use mathlib.Core.Path.{_≡_};
 ghost use lib.ListN.{length};
 ghost use Rattle.rule_cells.specs.Cells.{table};
-ghost use Rattle.rule_outline.specs.Outline.{levelOf, lowerBefore, parentsUpTo, hasRoom, withParents, heldIn, runBreaks, levelRule, parentShown, parentBreaks, parentRule, someOf, isTyped, parentTypeBreaks, parentTypeRule};
+ghost use Rattle.rule_outline.specs.Outline.{levelOf, lowerBefore, parentsUpTo, parentsHaveRoom, withParents, heldIn, runBreaks, levelRule, parentShown, parentBreaks, parentRule, someOf, isTyped, parentTypeBreaks, parentTypeRule};
 use json_number::Integer;
 use rule_cells::integer_in;
 use rule_cells::is_given;
@@ -98,7 +98,7 @@ pub fn fill_parents(
     level: usize,
     parents: &mut [u32],
 ) -> bool
-    ensures { λ x. ⌜ x ≡ hasRoom records (now (parents .entry)) ⌝ }
+    ensures { λ x. ⌜ x ≡ parentsHaveRoom records (now (parents .entry)) ⌝ }
     ensures { λ _. ⌜ now (parents .exit) ≡ withParents (table (now (s .entry)) (now (cells .entry)) width records) level (now (parents .entry)) ⌝ }
 {
     if 4096 < records {

@@ -5,12 +5,12 @@ use Prim.Native.String.{String}
 use mathlib.Core.Path.{_≡_, refl}
 use mathlib.Core.List.{List, [], _∷_, map}
 use lib.ListN.{getD}
-use Rattle.table_rows.specs.Ascii.{codes}
+use Rattle.json_bytes.specs.Ascii.{codes}
 use Rattle.table_fields.specs.Fields.{fieldsOf}
 use Rattle.rule_cells.specs.Cells.{Table}
 use Rattle.rule_shape.specs.declared.Rule.{Rule}
 use Rattle.rule_shape.specs.declared.Rule.the-variants.{NoneBelow, Together, LevelRun}
-use Rattle.rule_shape.specs.Rule.{firstOf}
+use Rattle.rule_shape.specs.Rule.{firstFileOf}
 use Rattle.schedule_rules.specs.Rules.{rules}
 use Rattle.schedule_rules.proofs.Opens.{open-rows}
 use Rattle.rule_reason.specs.declared.Searched.{Searched}
@@ -96,7 +96,7 @@ deciding =
 
 -- the deciding field's name in the file that the mark's rule judges
 unfoldable pub shownName : Table → ℕ → ℕ → List ℕ
-shownName t r mark = nameOf (firstOf (ruleOf mark)) (decidingField (ruleOf mark) t r)
+shownName t r mark = nameOf (firstFileOf (ruleOf mark)) (decidingField (ruleOf mark) t r)
 
 pub decided : (t : Table) (r : ℕ) → map (λ m. shownName t r (m .0)) deciding ≡ map (λ m. codes (m .1)) deciding
 unfolding open-reasons open-rows ruleOf nameOf deciding shownName

@@ -3,7 +3,7 @@
 -- first null; 78 Level; 79 and 80 ParentTaskID; else the first in table order to break it".
 use Prim.Native.Nat.{ℕ}
 use Rattle.rule_cells.specs.Cells.{Table, isGiven}
-use Rattle.rule_hours.specs.Hours.{firstField, isBelow, isNull}
+use Rattle.rule_hours.specs.Hours.{firstFieldThat, isBelow, isNull}
 use Rattle.rule_shape.specs.declared.Rule.{Rule}
 use Rattle.rule_shape.specs.declared.Rule.the-variants.{KeyOf, OneOf, NullUnless, GivenIf, GivenUnless, NoneBelow, SomeAbove, Together, LevelRun, ParentGiven, AllGiven, NoneGiven, InOrder, TreeLevels, TreeParent, TargetIn, ParentIs, LeafIn, EachHas}
 use Rattle.rule_reason.specs.declared.Searched.{Searched}
@@ -25,17 +25,17 @@ decidingField (SomeAbove file from to) t r = from
 -- "67, 73 and 74 ID", which is what they look for
 decidingField (EachHas file field when other id) t r = field
 -- "75 the first null"
-decidingField (Together file from to) t r = firstField (isNull (t .cells) (t .width) r) from to
+decidingField (Together file from to) t r = firstFieldThat (isNull (t .cells) (t .width) r) from to
 -- "78 Level; 79 and 80 ParentTaskID"
 decidingField (LevelRun file level) t r = level
 decidingField (ParentGiven file parent level id) t r = parent
 decidingField (ParentIs file parent level id other otherID otherType value) t r = parent
 -- "else the first in table order to break it", which leaves 68 and 70
-decidingField (NoneBelow file from to) t r = firstField (isBelow t r) from to
+decidingField (NoneBelow file from to) t r = firstFieldThat (isBelow t r) from to
 -- and of order 8's marks 81 by its first null, 82 and 84 by the first that is given: "order 6 explains these too (83 by
 -- BaselineStartDate)"
-decidingField (AllGiven file from to) t r = firstField (isNull (t .cells) (t .width) r) from to
-decidingField (NoneGiven file from to) t r = firstField (isGiven (t .cells) (t .width) r) from to
+decidingField (AllGiven file from to) t r = firstFieldThat (isNull (t .cells) (t .width) r) from to
+decidingField (NoneGiven file from to) t r = firstFieldThat (isGiven (t .cells) (t .width) r) from to
 decidingField (InOrder file first second) t r = first
 -- of order 9's marks levels by Level, parents by ParentID, leaves by the element that is named
 decidingField (TreeLevels file level) t r = level

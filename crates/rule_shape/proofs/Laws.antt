@@ -10,7 +10,7 @@ use lib.Seq.{getD-append-add}
 use Rattle.table_rows.specs.Rows.{cellAt}
 use Rattle.rule_shape.specs.declared.Rule.{Rule}
 use Rattle.rule_shape.specs.declared.Rule.the-variants.{KeyOf, OneOf, NullUnless, GivenIf, GivenUnless, NoneBelow, SomeAbove, Together, LevelRun, ParentGiven, AllGiven, NoneGiven, InOrder, TreeLevels, TreeParent, TargetIn, ParentIs, LeafIn, EachHas}
-use Rattle.rule_shape.specs.Rule.{condition, firstOf, secondOf, rowOf, shapesOf, ruleOf, ruleFrom, rulesFrom, rulesIn}
+use Rattle.rule_shape.specs.Rule.{condition, firstFileOf, secondFileOf, rowOf, shapesOf, ruleOf, ruleFrom, rulesFrom, rulesIn}
 
 -- ---- The files of a row. In a list that holds one number and that number past its end:
 alike : (m n a : ℕ) → getD (replicate m a) n a ≡ a
@@ -31,13 +31,13 @@ behind (suc m) k (suc n) a b h = behind m k n a b (omega arith)
 
 -- the first file is the row's second number; a shape from 15 on looks into the file that is its third
 module _ (shape file other field a b c d e : ℕ) where
-  first-of : firstOf (ruleOf shape file other field a b c d e) ≡ file
-  unfolding ruleOf shapesOf firstOf
-  first-of = sym (List·getD-map firstOf (shapesOf file other field a b c d e) shape (EachHas file field (condition a b c d) other e)) ∙ alike 18 shape file
+  first-of : firstFileOf (ruleOf shape file other field a b c d e) ≡ file
+  unfolding ruleOf shapesOf firstFileOf
+  first-of = sym (List·getD-map firstFileOf (shapesOf file other field a b c d e) shape (EachHas file field (condition a b c d) other e)) ∙ alike 18 shape file
 
-  second-of : secondOf (ruleOf shape file other field a b c d e) ≡ getD (replicate 15 file ++ replicate 3 other) shape other
-  unfolding ruleOf shapesOf secondOf
-  second-of = sym (List·getD-map secondOf (shapesOf file other field a b c d e) shape (EachHas file field (condition a b c d) other e))
+  second-of : secondFileOf (ruleOf shape file other field a b c d e) ≡ getD (replicate 15 file ++ replicate 3 other) shape other
+  unfolding ruleOf shapesOf secondFileOf
+  second-of = sym (List·getD-map secondFileOf (shapesOf file other field a b c d e) shape (EachHas file field (condition a b c d) other e))
 
   -- and any shape past the others is the last
   pub last-shape : 18 ≤ shape → ruleOf shape file other field a b c d e ≡ EachHas file field (condition a b c d) other e
@@ -45,15 +45,15 @@ module _ (shape file other field a b c d e : ℕ) where
   last-shape h = List·getD-eq-default (shapesOf file other field a b c d e) (EachHas file field (condition a b c d) other e) h
 
 module _ (rows : List ℕ) (i : ℕ) where
-  pub first-is : firstOf (ruleFrom rows i) ≡ cellAt rows 9 i 1
+  pub first-is : firstFileOf (ruleFrom rows i) ≡ cellAt rows 9 i 1
   unfolding ruleFrom
   first-is = first-of _ _ _ _ _ _ _ _ _
 
-  pub second-own : cellAt rows 9 i 0 < 15 → secondOf (ruleFrom rows i) ≡ cellAt rows 9 i 1
+  pub second-own : cellAt rows 9 i 0 < 15 → secondFileOf (ruleFrom rows i) ≡ cellAt rows 9 i 1
   unfolding ruleFrom
   second-own h = second-of _ _ _ _ _ _ _ _ _ ∙ front 15 3 _ _ _ h
 
-  pub second-other : 15 ≤ cellAt rows 9 i 0 → secondOf (ruleFrom rows i) ≡ cellAt rows 9 i 2
+  pub second-other : 15 ≤ cellAt rows 9 i 0 → secondFileOf (ruleFrom rows i) ≡ cellAt rows 9 i 2
   unfolding ruleFrom
   second-other h = second-of _ _ _ _ _ _ _ _ _ ∙ behind 15 3 _ _ _ h
 

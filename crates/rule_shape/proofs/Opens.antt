@@ -2,8 +2,8 @@
 -- added here asks nothing of those above.
 use mathlib.Core.Bool.{Bool, true}
 use Rattle.table_rows.proofs.Opens.{open-table-rows}
-use Rattle.rule_shape.specs.Rule.{firstOf, secondOf, reads, rowOf, shapesOf, ruleOf, ruleFrom, rulesFrom, rulesIn}
+use Rattle.rule_shape.specs.Rule.{firstFileOf, secondFileOf, reads, rowOf, shapesOf, ruleOf, ruleFrom, rulesFrom, rulesIn}
 
 unfoldable pub open-shapes : Bool
-unfolding open-table-rows firstOf secondOf reads rowOf shapesOf ruleOf ruleFrom rulesFrom rulesIn
+unfolding open-table-rows firstFileOf secondFileOf reads rowOf shapesOf ruleOf ruleFrom rulesFrom rulesIn
 open-shapes = true

@@ -12,52 +12,52 @@ use Rattle.rule_shape.specs.declared.Rule.{Rule}
 use Rattle.rule_shape.specs.declared.Rule.the-variants.{KeyOf, OneOf, NullUnless, GivenIf, GivenUnless, NoneBelow, SomeAbove, Together, LevelRun, ParentGiven, AllGiven, NoneGiven, InOrder, TreeLevels, TreeParent, TargetIn, ParentIs, LeafIn, EachHas}
 
 -- ---- What a rule reads. "place the first breaking record of the table named first": the file whose records it judges
-unfoldable pub firstOf : Rule → ℕ
-firstOf (KeyOf file fields) = file
-firstOf (OneOf file field first count) = file
-firstOf (NullUnless file field when) = file
-firstOf (GivenIf file field when) = file
-firstOf (GivenUnless file field when) = file
-firstOf (NoneBelow file from to) = file
-firstOf (SomeAbove file from to) = file
-firstOf (Together file from to) = file
-firstOf (LevelRun file level) = file
-firstOf (ParentGiven file parent level id) = file
-firstOf (AllGiven file from to) = file
-firstOf (NoneGiven file from to) = file
-firstOf (InOrder file first second) = file
-firstOf (TreeLevels file level) = file
-firstOf (TreeParent file parent level id) = file
-firstOf (TargetIn file field when other id) = file
-firstOf (ParentIs file parent level id other otherID otherType value) = file
-firstOf (LeafIn file field other id level) = file
-firstOf (EachHas file field when other id) = file
+unfoldable pub firstFileOf : Rule → ℕ
+firstFileOf (KeyOf file fields) = file
+firstFileOf (OneOf file field first count) = file
+firstFileOf (NullUnless file field when) = file
+firstFileOf (GivenIf file field when) = file
+firstFileOf (GivenUnless file field when) = file
+firstFileOf (NoneBelow file from to) = file
+firstFileOf (SomeAbove file from to) = file
+firstFileOf (Together file from to) = file
+firstFileOf (LevelRun file level) = file
+firstFileOf (ParentGiven file parent level id) = file
+firstFileOf (AllGiven file from to) = file
+firstFileOf (NoneGiven file from to) = file
+firstFileOf (InOrder file first second) = file
+firstFileOf (TreeLevels file level) = file
+firstFileOf (TreeParent file parent level id) = file
+firstFileOf (TargetIn file field when other id) = file
+firstFileOf (ParentIs file parent level id other otherID otherType value) = file
+firstFileOf (LeafIn file field other id level) = file
+firstFileOf (EachHas file field when other id) = file
 
 -- the file it looks into; a rule that looks into no other looks into its own
-unfoldable pub secondOf : Rule → ℕ
-secondOf (KeyOf file fields) = file
-secondOf (OneOf file field first count) = file
-secondOf (NullUnless file field when) = file
-secondOf (GivenIf file field when) = file
-secondOf (GivenUnless file field when) = file
-secondOf (NoneBelow file from to) = file
-secondOf (SomeAbove file from to) = file
-secondOf (Together file from to) = file
-secondOf (LevelRun file level) = file
-secondOf (ParentGiven file parent level id) = file
-secondOf (AllGiven file from to) = file
-secondOf (NoneGiven file from to) = file
-secondOf (InOrder file first second) = file
-secondOf (TreeLevels file level) = file
-secondOf (TreeParent file parent level id) = file
-secondOf (TargetIn file field when other id) = other
-secondOf (ParentIs file parent level id other otherID otherType value) = other
-secondOf (LeafIn file field other id level) = other
-secondOf (EachHas file field when other id) = other
+unfoldable pub secondFileOf : Rule → ℕ
+secondFileOf (KeyOf file fields) = file
+secondFileOf (OneOf file field first count) = file
+secondFileOf (NullUnless file field when) = file
+secondFileOf (GivenIf file field when) = file
+secondFileOf (GivenUnless file field when) = file
+secondFileOf (NoneBelow file from to) = file
+secondFileOf (SomeAbove file from to) = file
+secondFileOf (Together file from to) = file
+secondFileOf (LevelRun file level) = file
+secondFileOf (ParentGiven file parent level id) = file
+secondFileOf (AllGiven file from to) = file
+secondFileOf (NoneGiven file from to) = file
+secondFileOf (InOrder file first second) = file
+secondFileOf (TreeLevels file level) = file
+secondFileOf (TreeParent file parent level id) = file
+secondFileOf (TargetIn file field when other id) = other
+secondFileOf (ParentIs file parent level id other otherID otherType value) = other
+secondFileOf (LeafIn file field other id level) = other
+secondFileOf (EachHas file field when other id) = other
 
 -- "A rule reads only the files named in its line."
 unfoldable pub reads : Rule → ℕ → Bool
-reads rule file = eqb (firstOf rule) file || eqb (secondOf rule) file
+reads rule file = eqb (firstFileOf rule) file || eqb (secondFileOf rule) file
 
 -- ---- A rule's row: its shape, its file, the file it looks into, the deciding field, and five that the shape reads
 unfoldable pub rowOf : Rule → List ℕ

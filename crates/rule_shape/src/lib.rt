@@ -6,7 +6,7 @@ ghost use mathlib.Core.Path.{_≡_};
 ghost use Prim.Native.Nat.{_/_};
 ghost use lib.ListN.{length};
 ghost use Rattle.table_rows.specs.Rows.{cellAt};
-ghost use Rattle.rule_shape.specs.Rule.{firstOf, secondOf, ruleOf, ruleFrom};
+ghost use Rattle.rule_shape.specs.Rule.{firstFileOf, secondFileOf, ruleOf, ruleFrom};
 use rule_key::Key;
 use rule_when::When;
 use table_rows::cell_at;
@@ -169,14 +169,14 @@ pub fn rule_count(rows: &[u32]) -> usize
 
 // The file whose records rule i judges.
 pub fn first_file(rows: &[u32], i: usize) -> usize
-    ensures { λ r. ⌜ r ≡ firstOf (ruleFrom (now (rows .entry)) i) ⌝ }
+    ensures { λ r. ⌜ r ≡ firstFileOf (ruleFrom (now (rows .entry)) i) ⌝ }
 {
     column(rows, i, 1)
 }
 
 // The file that rule i looks into: its own where it looks into no other.
 pub fn second_file(rows: &[u32], i: usize) -> usize
-    ensures { λ r. ⌜ r ≡ secondOf (ruleFrom (now (rows .entry)) i) ⌝ }
+    ensures { λ r. ⌜ r ≡ secondFileOf (ruleFrom (now (rows .entry)) i) ⌝ }
 {
     if row_cell(rows, i, 0) < 15 {
         return column(rows, i, 1);

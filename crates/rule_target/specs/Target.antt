@@ -6,13 +6,13 @@ use mathlib.Core.List.{List}
 use lib.Dec.{eqb}
 use Rattle.json_same.specs.Same.{sameAs}
 use Rattle.json_same.specs.declared.Case.the-variants.{Folded}
-use Rattle.rule_cells.specs.Cells.{Table, table, isGiven, textOf, firstOf}
+use Rattle.rule_cells.specs.Cells.{Table, table, isGiven, textOf, firstThat}
 use Rattle.rule_when.specs.When.{holdsWhen}
 use Rattle.rule_when.specs.declared.When.{When}
 
 -- the first record of the target table whose field m is this text, from 1; 0 where none is
 unfoldable pub targetOf : List ℕ → Table → ℕ → ℕ
-targetOf text u m = firstOf (λ (q : ℕ). sameAs Folded text (textOf (table (u .bytes) (u .cells) (u .width) 0) q m)) (u .records)
+targetOf text u m = firstThat (λ (q : ℕ). sameAs Folded text (textOf (table (u .bytes) (u .cells) (u .width) 0) q m)) (u .records)
 
 -- record r breaks the rule: field k is given ("Null holds."), the record meets the condition, and no target record has it
 unfoldable pub breaksTarget : Table → ℕ → When → Table → ℕ → List ℕ → List ℕ → ℕ → Bool
@@ -21,4 +21,4 @@ breaksTarget t k w u m places texts r =
 
 unfoldable pub targetRule : Table → ℕ → When → Table → ℕ → List ℕ → List ℕ → ℕ
 targetRule t k w u m places texts =
-    firstOf (breaksTarget (table (t .bytes) (t .cells) (t .width) 0) k w u m places texts) (t .records)
+    firstThat (breaksTarget (table (t .bytes) (t .cells) (t .width) 0) k w u m places texts) (t .records)

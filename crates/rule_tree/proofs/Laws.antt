@@ -9,7 +9,7 @@ use native.Mathlib.Numerals.{add-one}
 use native.Mathlib.Omega.{arith}
 use borrow.Author.Tests.{eq-eqb, ne-eqb, lt-ltb, le-ltb, le-leb, lt-leb}
 use lib.Dec.{ltb}
-use Rattle.rule_cells.specs.Cells.{Table, table, integerIn, sameText, textOf, firstFrom, firstOf}
+use Rattle.rule_cells.specs.Cells.{Table, table, integerIn, sameText, textOf, firstFrom, firstThat}
 use Rattle.rule_cells.proofs.Laws.{search-hits, search-goes-on, search-ends}
 use Rattle.rule_outline.specs.Outline.{levelOne, levelOf}
 use Rattle.rule_outline.specs.declared.Outline.{Outline}
@@ -46,7 +46,7 @@ before-next t level r e =
 -- how many records there are plays no part in a Level
 module _ (s cells : List ℕ) (width n level : ℕ) where
   level-starts : treeLevelRule (table s cells width n) level ≡ firstFrom (treeLevelBreaks (levelOf (table s cells width 0) level)) (n - 0) 0
-  unfolding treeLevelRule levelOf integerIn firstOf
+  unfolding treeLevelRule levelOf integerIn firstThat
   level-starts = rw (sub-zero n)
 
   pub no-levels : n ≡ 0 → 0 ≡ treeLevelRule (table s cells width n) level
@@ -78,10 +78,10 @@ module _ (parents : ℕ → ℕ) (breaks : ℕ → Bool) (n r : ℕ) where
 
 module _ (s cells : List ℕ) (width n : ℕ) where
   pub parent-starts : (id parent : ℕ) (parents : ℕ → ℕ) → treeParentRule (table s cells width n) id parent parents ≡ withParent parents (firstFrom (treeParentBreaks (table s cells width 0) id parent parents) (n - 0) 0)
-  unfolding treeParentRule firstOf treeParentBreaks sameText textOf
+  unfolding treeParentRule firstThat treeParentBreaks sameText textOf
   parent-starts id parent parents = rw (sub-zero n)
 
   -- ---- Leaves
   pub leaf-starts : (k : ℕ) (u : Table) (id level : ℕ) → leafRule (table s cells width n) k u id level ≡ firstFrom (leafBreaks (table s cells width 0) k u id level) (n - 0) 0
-  unfolding leafRule firstOf leafBreaks namesParent sameText textOf
+  unfolding leafRule firstThat leafBreaks namesParent sameText textOf
   leaf-starts k u id level = rw (sub-zero n)

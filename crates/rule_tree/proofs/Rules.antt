@@ -5,9 +5,9 @@ use mathlib.Core.Path.{_≡_, refl, ap, _∙_}
 use mathlib.Core.Bool.{Bool, true}
 use mathlib.Core.List.{List}
 use native.Mathlib.Omega.{arith}
-use Rattle.rule_cells.specs.Cells.{Table, firstOf}
+use Rattle.rule_cells.specs.Cells.{Table, firstThat}
 use Rattle.rule_cells.proofs.First.{first-found}
-use Rattle.rule_outline.specs.Outline.{parentOf, hasRoom, withParents, heldIn}
+use Rattle.rule_outline.specs.Outline.{parentOf, parentsHaveRoom, withParents, heldIn}
 use Rattle.rule_outline.proofs.Rules.{first-same, filled-holds}
 use Rattle.rule_tree.specs.Tree.{treeParentBreaks, withParent, treeParentRule}
 
@@ -21,13 +21,13 @@ module _ (t : Table) (p q : ℕ → ℕ) (agree : (r : ℕ) → r < t .records �
   tree-parent-same : (id parent : ℕ) → treeParentRule t id parent p ≡ treeParentRule t id parent q
   unfolding treeParentRule treeParentBreaks
   tree-parent-same id parent =
-      same-at (firstOf (treeParentBreaks t id parent p) (t .records)) (λ r e. agree r (omega (arith, first-found (treeParentBreaks t id parent p) (t .records) r e .inside)))
+      same-at (firstThat (treeParentBreaks t id parent p) (t .records)) (λ r e. agree r (omega (arith, first-found (treeParentBreaks t id parent p) (t .records) r e .inside)))
       ∙ ap (withParent q) (first-same (treeParentBreaks t id parent p) (treeParentBreaks t id parent q) (t .records) (λ r l. alike r (agree r l)))
     where
       alike : (r : ℕ) → p r ≡ q r → treeParentBreaks t id parent p r ≡ treeParentBreaks t id parent q r
       alike r e = rw e
 
 -- ---- so it may be asked over a list that was filled with them
-pub filled-tree-parents : (t : Table) (level : ℕ) (list : List ℕ) → hasRoom (t .records) list ≡ true → (id parent : ℕ) → treeParentRule t id parent (heldIn (withParents t level list)) ≡ treeParentRule t id parent (parentOf t level)
+pub filled-tree-parents : (t : Table) (level : ℕ) (list : List ℕ) → parentsHaveRoom (t .records) list ≡ true → (id parent : ℕ) → treeParentRule t id parent (heldIn (withParents t level list)) ≡ treeParentRule t id parent (parentOf t level)
 filled-tree-parents t level list room id parent =
     tree-parent-same t (heldIn (withParents t level list)) (parentOf t level) (filled-holds t level list room) id parent

@@ -5,7 +5,7 @@
 use Prim.Native.Nat.{ℕ, zero, suc, _+_, _-_}
 use mathlib.Core.Bool.{Bool, true, cond, not, _&&_}
 use lib.Dec.{ltb, leb, eqb}
-use Rattle.rule_cells.specs.Cells.{Table, isGiven, sameText, firstOf}
+use Rattle.rule_cells.specs.Cells.{Table, isGiven, sameText, firstThat}
 use Rattle.rule_outline.specs.Outline.{levelOne, levelOf, parentBy, someOf}
 use Rattle.rule_outline.specs.declared.Outline.{Outline}
 
@@ -22,7 +22,7 @@ treeLevelBreaks levels zero = firstBreaks (levels 0)
 treeLevelBreaks levels (suc r) = nextBreaks (levels r) (levels (suc r))
 
 unfoldable pub treeLevelRule : Table → ℕ → ℕ
-treeLevelRule t level = firstOf (treeLevelBreaks (levelOf t level)) (t .records)
+treeLevelRule t level = firstThat (treeLevelBreaks (levelOf t level)) (t .records)
 
 -- ---- Parents. "The first record must have a null ParentID. All other records must have a ParentID equal to the ID of the parent
 -- record determined by the hierarchical structure": broken too where there is no such record
@@ -38,7 +38,7 @@ withParent parents zero = record { «record» = 0; parent = 0 }
 withParent parents (suc r) = record { «record» = suc r; parent = parents r }
 
 unfoldable pub treeParentRule : Table → ℕ → ℕ → (ℕ → ℕ) → Outline
-treeParentRule t id parent parents = withParent parents (firstOf (treeParentBreaks t id parent parents) (t .records))
+treeParentRule t id parent parents = withParent parents (firstThat (treeParentBreaks t id parent parents) (t .records))
 
 -- ---- Leaves. 2.2.12: "WBSElementID and OBSElementID must each refer to an element with no child elements"
 -- element q has a child: it is the parent of one of the n elements
@@ -54,4 +54,4 @@ unfoldable pub leafBreaks : Table → ℕ → Table → ℕ → ℕ → ℕ → 
 leafBreaks t k u id level r = isGiven (t .cells) (t .width) r k && someOf (namesParent t r k u id level) (u .records)
 
 unfoldable pub leafRule : Table → ℕ → Table → ℕ → ℕ → ℕ
-leafRule t k u id level = firstOf (leafBreaks t k u id level) (t .records)
+leafRule t k u id level = firstThat (leafBreaks t k u id level) (t .records)

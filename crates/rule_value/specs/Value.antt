@@ -2,7 +2,7 @@
 use Prim.Native.Nat.{ℕ, zero, suc}
 use mathlib.Core.Bool.{Bool, true, false, not, _&&_}
 use mathlib.Core.List.{List}
-use Rattle.rule_cells.specs.Cells.{Table, table, isGiven, firstOf}
+use Rattle.rule_cells.specs.Cells.{Table, table, isGiven, firstThat}
 use Rattle.rule_when.specs.When.{isValue, holdsWhen}
 use Rattle.rule_value.specs.declared.FieldRule.{FieldRule}
 use Rattle.rule_value.specs.declared.FieldRule.the-variants.{OneOf, NullUnless, GivenIf}
@@ -29,4 +29,4 @@ breaksField t k (GivenIf w wanted) places texts r =
 -- the first record that breaks it, from 1; 0 where none does. Whether one record breaks it has nothing to do with how many
 -- there are.
 unfoldable pub fieldRule : Table → ℕ → FieldRule → List ℕ → List ℕ → ℕ
-fieldRule t k rule places texts = firstOf (breaksField (table (t .bytes) (t .cells) (t .width) 0) k rule places texts) (t .records)
+fieldRule t k rule places texts = firstThat (breaksField (table (t .bytes) (t .cells) (t .width) 0) k rule places texts) (t .records)

@@ -12,8 +12,8 @@ use Rattle.rule_key.specs.declared.KeyBreak.{KeyBreak}
 use Rattle.rule_value.specs.Value.{fieldRule}
 use Rattle.rule_value.specs.declared.FieldRule.{FieldRule}
 use Rattle.rule_target.specs.Target.{targetRule}
-use Rattle.rule_dates.specs.Dates.{inOrder}
-use Rattle.rule_hours.specs.Hours.{noneBelow, someAbove, together, allGiven, noneGiven}
+use Rattle.rule_dates.specs.Dates.{datesInOrderRule}
+use Rattle.rule_hours.specs.Hours.{noneBelowRule, someAboveRule, togetherRule, allGivenRule, noneGivenRule}
 use Rattle.rule_outline.specs.Outline.{levelRule, parentRule, parentTypeRule, parentOf}
 use Rattle.rule_outline.specs.declared.Outline.{Outline}
 use Rattle.rule_tree.specs.Tree.{treeLevelRule, treeParentRule, leafRule}
@@ -48,17 +48,17 @@ ruleBreak places texts (NullUnless file field when) t u = alone (fieldRule t fie
 ruleBreak places texts (GivenIf file field when) t u = alone (fieldRule t field (FieldRule.GivenIf when true) places texts)
 ruleBreak places texts (GivenUnless file field when) t u = alone (fieldRule t field (FieldRule.GivenIf when false) places texts)
 -- 68, 70, 69 and 75: a run of fields
-ruleBreak places texts (NoneBelow file from to) t u = alone (noneBelow t from to)
-ruleBreak places texts (SomeAbove file from to) t u = alone (someAbove t from to)
-ruleBreak places texts (Together file from to) t u = alone (together (t .cells) (t .width) (t .records) from to)
+ruleBreak places texts (NoneBelow file from to) t u = alone (noneBelowRule t from to)
+ruleBreak places texts (SomeAbove file from to) t u = alone (someAboveRule t from to)
+ruleBreak places texts (Together file from to) t u = alone (togetherRule (t .cells) (t .width) (t .records) from to)
 -- 78: the run of Levels
 ruleBreak places texts (LevelRun file level) t u = alone (levelRule t level)
 -- 79: "the TaskID of its parent, the nearest earlier record of lower Level"
 ruleBreak places texts (ParentGiven file parent level id) t u = parentBreak t (parentRule t level id parent (parentOf t level))
 -- document 02, order 8, 81, 82, 84 and 83: the fields of a run, and two Dates
-ruleBreak places texts (AllGiven file from to) t u = alone (allGiven (t .cells) (t .width) (t .records) from to)
-ruleBreak places texts (NoneGiven file from to) t u = alone (noneGiven (t .cells) (t .width) (t .records) from to)
-ruleBreak places texts (InOrder file first second) t u = alone (inOrder t first second)
+ruleBreak places texts (AllGiven file from to) t u = alone (allGivenRule (t .cells) (t .width) (t .records) from to)
+ruleBreak places texts (NoneGiven file from to) t u = alone (noneGivenRule (t .cells) (t .width) (t .records) from to)
+ruleBreak places texts (InOrder file first second) t u = alone (datesInOrderRule t first second)
 -- order 9, the Levels and the parents of a tree
 ruleBreak places texts (TreeLevels file level) t u = alone (treeLevelRule t level)
 ruleBreak places texts (TreeParent file parent level id) t u = parentBreak t (treeParentRule t id parent (parentOf t level))

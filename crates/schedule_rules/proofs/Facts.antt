@@ -12,7 +12,7 @@ use Rattle.table_rows.proofs.Laws.{all}
 use Rattle.rule_when.specs.declared.When.{When}
 use Rattle.rule_shape.specs.declared.Rule.{Rule}
 use Rattle.rule_shape.specs.declared.Rule.the-variants.{KeyOf, OneOf, NullUnless, GivenIf, GivenUnless, NoneBelow, SomeAbove, Together, LevelRun, ParentGiven, AllGiven, NoneGiven, InOrder, TreeLevels, TreeParent, TargetIn, ParentIs, LeafIn, EachHas}
-use Rattle.rule_shape.specs.Rule.{firstOf, secondOf, rulesIn}
+use Rattle.rule_shape.specs.Rule.{firstFileOf, secondFileOf, rulesIn}
 use Rattle.rule_shape.proofs.Laws.{rows-back}
 use Rattle.schedule_rules.specs.Rules.{rules, ruleRows}
 use Rattle.schedule_rules.proofs.Opens.{open-rows}
@@ -28,7 +28,7 @@ isTable file = leb 1 file && leb file 19
 
 unfoldable pub isWithin : Rule → Bool
 unfolding isTable
-isWithin rule = isTable (firstOf rule) && isTable (secondOf rule)
+isWithin rule = isTable (firstFileOf rule) && isTable (secondFileOf rule)
 
 pub rules-within : all isWithin rules ≡ true
 unfolding open-rows all isWithin

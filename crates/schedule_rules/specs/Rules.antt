@@ -6,7 +6,7 @@ use mathlib.Core.Bool.{true, false}
 use mathlib.Core.List.{List, [], _∷_, map, flatten}
 use lib.ListN.{length}
 use Rattle.json_same.specs.Same.{sameList}
-use Rattle.table_rows.specs.Ascii.{codes}
+use Rattle.json_bytes.specs.Ascii.{codes}
 use Rattle.table_fields.specs.Fields.{fieldsOf}
 use Rattle.table_fields.specs.Enumerations.{valuesOf}
 use Rattle.table_fields.specs.Flat.{firstValue}
@@ -52,11 +52,11 @@ key3 file a b c = KeyOf file (key (no file a) ids (no file b) ids (no file c) id
 unfoldable pub always : When
 always = condition 0 0 0 0
 
-unfoldable pub isGiven : ℕ → String → When
-isGiven file a = condition 1 (no file a) 0 0
+unfoldable pub whenGiven : ℕ → String → When
+whenGiven file a = condition 1 (no file a) 0 0
 
-unfoldable pub isTrue : ℕ → String → When
-isTrue file a = condition 2 (no file a) 0 0
+unfoldable pub whenTrue : ℕ → String → When
+whenTrue file a = condition 2 (no file a) 0 0
 
 unfoldable pub isEither : ℕ → String → ℕ → String → String → When
 isEither file a e v w = condition 3 (no file a) (value e v) (value e w)
@@ -156,8 +156,8 @@ rules =
     target 19 "ResourceID" always 16 "ID" ∷
     target 19 "TaskID" always 9 "ID" ∷
     -- 65 "ContractorIDCode null unless ContractorIDCodeTypeID isn't"; 66 "EVMSAcceptanceDate null unless EVMSAccepted is true"
-    nullUnless 1 "ContractorIDCode" (isGiven 1 "ContractorIDCodeTypeID") ∷
-    nullUnless 1 "EVMSAcceptanceDate" (isTrue 1 "EVMSAccepted") ∷
+    nullUnless 1 "ContractorIDCode" (whenGiven 1 "ContractorIDCodeTypeID") ∷
+    nullUnless 1 "EVMSAcceptanceDate" (whenTrue 1 "EVMSAccepted") ∷
     -- 67 "each calendar has a workshift"
     eachHas 6 "ID" always 7 "CalendarID" ∷
     -- 68 "no hours below zero"; 69 "some hours above zero; null is 0"; 70 "hours not below zero"

@@ -7,7 +7,7 @@ use mathlib.Core.Bool.{cond}
 use mathlib.Core.List.{List, [], _∷_, map}
 use lib.Dec.{eqb}
 use Rattle.parts.specs.Files.{File, Left, Given, bytesOf}
-use Rattle.table_rows.specs.Ascii.{codes}
+use Rattle.json_bytes.specs.Ascii.{codes}
 use Rattle.table_fields.specs.Fields.{tables, fieldsOf}
 use Rattle.table_file.proofs.Opens.{open-files}
 use Rattle.schedule_rules.proofs.Opens.{open-rows}

@@ -17,7 +17,7 @@ use Rattle.table_file.specs.File.{Form, Fixed, Single, Records, Expected}
 use Rattle.bundle_bytes.specs.Pieces.{written}
 use Rattle.bundle_bytes.proofs.Laws.{written-fits, written-length, written-part, written-part-behind}
 use Rattle.entries.specs.declared.Entry.{Entry}
-use Rattle.entries.specs.Flat.{numbersOf, flatOf, entryIn, entriesIn}
+use Rattle.entries.specs.Flat.{entryNumbers, flatOf, entryIn, entriesIn}
 use Rattle.entries.proofs.Flat.{flat-long, flat-join, written-on}
 use Rattle.gate_marks.specs.Work.{roomFor, roomOf, roomStart, readOf, workAfter, workRead}
 use Rattle.gate_marks.proofs.Rooms.{room-next, room-grows, work-length}
@@ -135,22 +135,22 @@ entries-cons w at (suc n) = ap (λ l. l ++ (entryIn w (at + 4 * suc n) ∷ [])) 
     place : at + 4 * suc n ≡ at + 4 + 4 * n
     place = omega arith
 
-entry-back : (w : List ℕ) (at : ℕ) (e : Entry) (rest : List ℕ) → drop at w ≡ numbersOf e ++ rest → entryIn w at ≡ e
-unfolding entryIn numbersOf
+entry-back : (w : List ℕ) (at : ℕ) (e : Entry) (rest : List ℕ) → drop at w ≡ entryNumbers e ++ rest → entryIn w at ≡ e
+unfolding entryIn entryNumbers
 entry-back w at e rest is = rw (ap (λ a. getD w a 0) (sym (add-zero at)) ∙ number 0 (e .start) refl, number 1 (e .length) refl, number 2 (e .sum) refl, number 3 (e .«record») refl)
   where
     number : (j x : ℕ) → getD (e .start ∷ e .length ∷ e .sum ∷ e .«record» ∷ rest) j 0 ≡ x → getD w (at + j) 0 ≡ x
     number j x q = sym (getD-drop at w j 0) ∙ ap (λ l. getD l j 0) is ∙ q
 
-four : (x : Entry) (l : List ℕ) → drop 4 (numbersOf x ++ l) ≡ l
-unfolding numbersOf
+four : (x : Entry) (l : List ℕ) → drop 4 (entryNumbers x ++ l) ≡ l
+unfolding entryNumbers
 four x l = refl
 
 back-from : (w : List ℕ) (at : ℕ) (es : List Entry) (rest : List ℕ) → drop at w ≡ flatOf es ++ rest → entriesIn w at (length es) ≡ es
 unfolding entriesIn flatOf
 back-from w at [] rest is = refl
 back-from w at (e ∷ es) rest is =
-    let split : drop at w ≡ numbersOf e ++ (flatOf es ++ rest) = is ∙ append-assoc (numbersOf e) (flatOf es) rest in
+    let split : drop at w ≡ entryNumbers e ++ (flatOf es ++ rest) = is ∙ append-assoc (entryNumbers e) (flatOf es) rest in
     entries-cons w at (length es) ∙ ap (λ (x : Entry). x ∷ entriesIn w (at + 4) (length es)) (entry-back w at e (flatOf es ++ rest) split)
     ∙ ap (λ l. e ∷ l) (back-from w (at + 4) es rest (sym (drop-drop 4 at w) ∙ ap (drop 4) split ∙ four e (flatOf es ++ rest)))
 

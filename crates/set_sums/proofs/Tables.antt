@@ -20,7 +20,7 @@ use Rattle.gate_marks.specs.Marks.{tableOf}
 use Rattle.gate_marks.proofs.Rooms.{length-zeros}
 use Rattle.schedule.specs.Schedule.{free, expectedFiles, schedule}
 use Rattle.table_again.specs.Again.{asRecords, readAgain}
-use Rattle.set_sums.specs.Set.{assignments, resources}
+use Rattle.set_sums.specs.Set.{assignmentsOf, resourcesOf}
 use Rattle.set_sums.specs.Work.{tablesLeft}
 
 -- ---- files 16 and 19 are arrays of records
@@ -53,12 +53,12 @@ module _ (s : List ℕ) (k room width : ℕ) (e : Expected) (e-is : e ≡ asReco
   unfolding tableOf readOf readAgain
   table-again = rw (e-is, room-is, width-is)
 
-pub resources-are : (s : List ℕ) → resources s ≡ table (bytesOf (fileAt s 16)) (readAgain s 16 32768 .cells) 8 (readAgain s 16 32768 .read .records)
-unfolding resources
+pub resources-are : (s : List ℕ) → resourcesOf s ≡ table (bytesOf (fileAt s 16)) (readAgain s 16 32768 .cells) 8 (readAgain s 16 32768 .read .records)
+unfolding resourcesOf
 resources-are s = table-again s 16 32768 8 (schedule .expected 16) expected-16 room-16 width-16
 
-pub assignments-are : (s : List ℕ) → assignments s ≡ table (bytesOf (fileAt s 19)) (readAgain s 19 73728 .cells) 18 (readAgain s 19 73728 .read .records)
-unfolding assignments
+pub assignments-are : (s : List ℕ) → assignmentsOf s ≡ table (bytesOf (fileAt s 19)) (readAgain s 19 73728 .cells) 18 (readAgain s 19 73728 .read .records)
+unfolding assignmentsOf
 assignments-are s = table-again s 19 73728 18 (schedule .expected 19) expected-19 room-19 width-19
 
 pub again-long : (s : List ℕ) (k room : ℕ) → length (readAgain s k room .cells) ≡ room
@@ -82,7 +82,7 @@ module _ (s : List ℕ) {records u-records : ℕ} {part u-part cells u-cells : L
     (part-is : part ≡ bytesOf (fileAt s 19)) (u-part-is : u-part ≡ bytesOf (fileAt s 16))
     (cells-are : cells ≡ readAgain s 19 73728 .cells) (u-cells-are : u-cells ≡ readAgain s 16 32768 .cells)
     (count-is : records ≡ readAgain s 19 73728 .read .records) (u-count-is : u-records ≡ readAgain s 16 32768 .read .records) where
-  pub sums-are : {r : Sums} → r ≡ sumsIn (table part cells 18 records) (table u-part u-cells 8 u-records) → r ≡ sumsIn (assignments s) (resources s)
+  pub sums-are : {r : Sums} → r ≡ sumsIn (table part cells 18 records) (table u-part u-cells 8 u-records) → r ≡ sumsIn (assignmentsOf s) (resourcesOf s)
   sums-are e = e ∙ rw (part-is, u-part-is, cells-are, u-cells-are, count-is, u-count-is, ← resources-are s, ← assignments-are s)
 
 -- ---- both tables, read one behind the other into the front of a workspace
@@ -120,7 +120,7 @@ module _ (s w : List ℕ) (room : 106496 ≤ length w) {a b first last : List �
       ap length last-are ∙ omega (arith, length-append (a ++ b) (drop 106496 w), length-append a b, a-long, b-long, length-drop 106496 w)
 
   pub both-read : {ra rb : ℕ} → ra ≡ readAgain s 16 (length (take 32768 w)) .read .records → rb ≡ readAgain s 19 (length (take 73728 (drop 32768 first))) .read .records
-      → {r : Sums} → r ≡ sumsIn (table (bytesOf (fileAt s 19)) (take 73728 (drop 32768 last)) 18 rb) (table (bytesOf (fileAt s 16)) (take 32768 last) 8 ra) → (r ≡ sumsIn (assignments s) (resources s)) × (last ≡ tablesLeft s w)
+      → {r : Sums} → r ≡ sumsIn (table (bytesOf (fileAt s 19)) (take 73728 (drop 32768 last)) 18 rb) (table (bytesOf (fileAt s 16)) (take 32768 last) 8 ra) → (r ≡ sumsIn (assignmentsOf s) (resourcesOf s)) × (last ≡ tablesLeft s w)
   both-read ra-is rb-is r-is = (
     sums-are s refl refl (behind-is a b w 32768 73728 a-long b-long last-are ∙ b-cells) (front-is a b w 32768 73728 a-long b-long last-are ∙ a-cells)
         (rb-is ∙ ap (λ n. readAgain s 19 n .read .records) second-room) (ra-is ∙ ap (λ n. readAgain s 16 n .read .records) first-room) r-is,

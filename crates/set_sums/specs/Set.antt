@@ -17,19 +17,19 @@ use Rattle.schedule.specs.Schedule.{schedule}
 use Rattle.gate.specs.Gate.{verdictOf}
 
 -- file 19 and file 16, as the rules see them
-unfoldable pub assignments : List ℕ → Table
-assignments s = tableOf (schedule .expected 19) (fileAt s 19)
+unfoldable pub assignmentsOf : List ℕ → Table
+assignmentsOf s = tableOf (schedule .expected 19) (fileAt s 19)
 
-unfoldable pub resources : List ℕ → Table
-resources s = tableOf (schedule .expected 16) (fileAt s 16)
+unfoldable pub resourcesOf : List ℕ → Table
+resourcesOf s = tableOf (schedule .expected 16) (fileAt s 16)
 
 -- not refused, and all 81 marks hold
-unfoldable pub isAccepted : List ℕ → Bool
-isAccepted s = eqb (verdictOf (judgement schedule s) .refusal) 0 && acceptedBoard (verdictOf (judgement schedule s) .board)
+unfoldable pub setAccepted : List ℕ → Bool
+setAccepted s = eqb (verdictOf (judgement schedule s) .refusal) 0 && acceptedBoard (verdictOf (judgement schedule s) .board)
 
 -- whether it counts, and then its 24 sums; else all are 0
 unfoldable pub setSums : List ℕ → Sums
-setSums s = cond (isAccepted s) (sumsIn (assignments s) (resources s)) noSums
+setSums s = cond (setAccepted s) (sumsIn (assignmentsOf s) (resourcesOf s)) noSums
 
 unfoldable pub isCounted : List ℕ → Bool
 isCounted s = setSums s .fits

@@ -6,7 +6,7 @@ ghost use Rattle.parts.specs.Files.{bytesOf};
 ghost use Rattle.rule_cells.specs.Cells.{table};
 ghost use Rattle.bundle_layout.specs.Bundle.{fileAt};
 ghost use Rattle.element_sums.specs.Sums.{sumsIn};
-ghost use Rattle.set_sums.specs.Set.{assignments, resources, setSumsIn};
+ghost use Rattle.set_sums.specs.Set.{assignmentsOf, resourcesOf, setSumsIn};
 ghost use Rattle.set_sums.specs.Work.{tablesLeft, sumsLeft};
 use board::is_accepted;
 use bundle::part_at;
@@ -42,7 +42,7 @@ fn sums_read(bundle: &[u8], work: &[u32], records: usize, u_records: usize) -> S
 // The same, with the tables read into the front of a lent workspace first.
 fn table_sums(bundle: &[u8], work: &mut [u32]) -> Sums
     requires { ⌜ 106496 ≤ length (now work) ⌝ }
-    ensures { λ r. ⌜ r ≡ sumsIn (assignments (now (bundle .entry))) (resources (now (bundle .entry))) ⌝ }
+    ensures { λ r. ⌜ r ≡ sumsIn (assignmentsOf (now (bundle .entry))) (resourcesOf (now (bundle .entry))) ⌝ }
     ensures { λ _. ⌜ now (work .exit) ≡ tablesLeft (now (bundle .entry)) (now (work .entry)) ⌝ }
 {
     let from = RESOURCES_END;

@@ -12,7 +12,7 @@ use lib.Seq.{getD-set-same, getD-set-other}
 use lib.Dec.{ltb, leb}
 use Rattle.parts.specs.Part.{partOf}
 use Rattle.parts.specs.Files.{Left, Given, isPresent, bytesOf}
-use Rattle.standing.specs.Standing.{numberOf, sliceOf, isThere, standing, startStanding, placed}
+use Rattle.standing.specs.Standing.{numberOf, sliceOf, isThere, standing, startStanding, standingWith}
 
 -- ---- past the end of the list there are only numbers that are 0
 pub number-past : (stand : List ℕ) (k j : ℕ) → length stand ≤ 3 * k + j → 0 ≡ numberOf stand k j
@@ -74,11 +74,11 @@ module _ (a b c stand : List ℕ) (k which from long : ℕ) (which-is : which �
 
 -- ---- after file k was put somewhere
 module _ (stand : List ℕ) (k which from to : ℕ) where
-  pub placed-length : length (placed stand k which from to) ≡ length stand
-  unfolding placed
+  pub placed-length : length (standingWith stand k which from to) ≡ length stand
+  unfolding standingWith
   placed-length = simp length-set
 
-  pub placed-fits : k < length stand / 3 → cond (ltb k (length stand / 3)) (placed stand k which from to) stand ≡ placed stand k which from to
+  pub placed-fits : k < length stand / 3 → cond (ltb k (length stand / 3)) (standingWith stand k which from to) stand ≡ standingWith stand k which from to
   placed-fits l = rw (lt-ltb k (length stand / 3) l)
 
   -- after the first number, and after the second
@@ -89,51 +89,51 @@ module _ (stand : List ℕ) (k which from to : ℕ) where
   two = set one (3 * k + 1) from
 
   -- the numbers of any other file are as they were
-  number-kept : (j i : ℕ) → (j ≡ k → ⊥) → i < 3 → numberOf (placed stand k which from to) j i ≡ numberOf stand j i
-  unfolding numberOf placed
+  number-kept : (j i : ℕ) → (j ≡ k → ⊥) → i < 3 → numberOf (standingWith stand k which from to) j i ≡ numberOf stand j i
+  unfolding numberOf standingWith
   number-kept j i n l =
       getD-set-other two (3 * k + 2) (3 * j + i) to 0 (λ e. n (omega arith))
       ∙ getD-set-other one (3 * k + 1) (3 * j + i) from 0 (λ e. n (omega arith))
       ∙ getD-set-other stand (3 * k) (3 * j + i) which 0 (λ e. n (omega arith))
 
   module _ (l : k < length stand / 3) where
-    which-placed : numberOf (placed stand k which from to) k 0 ≡ which
-    unfolding numberOf placed
+    which-placed : numberOf (standingWith stand k which from to) k 0 ≡ which
+    unfolding numberOf standingWith
     which-placed =
         getD-set-other two (3 * k + 2) (3 * k + 0) to 0 (λ e. omega arith)
         ∙ getD-set-other one (3 * k + 1) (3 * k + 0) from 0 (λ e. omega arith)
         ∙ rw (add-zero (3 * k)) (getD-set-same stand (3 * k) which 0 (omega arith))
 
-    from-placed : numberOf (placed stand k which from to) k 1 ≡ from
-    unfolding numberOf placed
+    from-placed : numberOf (standingWith stand k which from to) k 1 ≡ from
+    unfolding numberOf standingWith
     from-placed =
         getD-set-other two (3 * k + 2) (3 * k + 1) to 0 (λ e. omega arith)
         ∙ getD-set-same one (3 * k + 1) from 0 (omega (arith, length-set stand (3 * k) which))
 
-    to-placed : numberOf (placed stand k which from to) k 2 ≡ to
-    unfolding numberOf placed
+    to-placed : numberOf (standingWith stand k which from to) k 2 ≡ to
+    unfolding numberOf standingWith
     to-placed = getD-set-same two (3 * k + 2) to 0 (omega (arith, length-set stand (3 * k) which, length-set one (3 * k + 1) from))
 
     module _ (a b c : List ℕ) where
       -- it stands there, or nowhere
-      pub placed-there : (which ≡ 0 → ⊥) → standing a b c (placed stand k which from to) k ≡ Given (partOf (sliceOf a b c which) from to)
-      placed-there n = rw (which-placed, from-placed, to-placed) at (stands-there a b c (placed stand k which from to) k (rw which-placed n))
+      pub placed-there : (which ≡ 0 → ⊥) → standing a b c (standingWith stand k which from to) k ≡ Given (partOf (sliceOf a b c which) from to)
+      placed-there n = rw (which-placed, from-placed, to-placed) at (stands-there a b c (standingWith stand k which from to) k (rw which-placed n))
 
-      pub placed-nowhere : which ≡ 0 → standing a b c (placed stand k which from to) k ≡ Left
-      placed-nowhere e = stands-nowhere a b c (placed stand k which from to) k (which-placed ∙ e)
+      pub placed-nowhere : which ≡ 0 → standing a b c (standingWith stand k which from to) k ≡ Left
+      placed-nowhere e = stands-nowhere a b c (standingWith stand k which from to) k (which-placed ∙ e)
 
   -- and every other file where it stood
-  pub placed-other : (a b c : List ℕ) (j : ℕ) → (j ≡ k → ⊥) → standing a b c (placed stand k which from to) j ≡ standing a b c stand j
+  pub placed-other : (a b c : List ℕ) (j : ℕ) → (j ≡ k → ⊥) → standing a b c (standingWith stand k which from to) j ≡ standing a b c stand j
   unfolding standing isThere
   placed-other a b c j n =
       rw (number-kept j 0 n (omega arith), number-kept j 1 n (omega arith), number-kept j 2 n (omega arith))
 
   -- where it starts, and where every other does
   module _ (a b c : List ℕ) where
-    pub start-placed : k < length stand / 3 → startStanding a b c (placed stand k which from to) k ≡ cond (leb from (length (sliceOf a b c which))) from 0
+    pub start-placed : k < length stand / 3 → startStanding a b c (standingWith stand k which from to) k ≡ cond (leb from (length (sliceOf a b c which))) from 0
     unfolding startStanding
     start-placed l = rw (which-placed l, from-placed l)
 
-    pub start-kept : (j : ℕ) → (j ≡ k → ⊥) → startStanding a b c (placed stand k which from to) j ≡ startStanding a b c stand j
+    pub start-kept : (j : ℕ) → (j ≡ k → ⊥) → startStanding a b c (standingWith stand k which from to) j ≡ startStanding a b c stand j
     unfolding startStanding
     start-kept j n = rw (number-kept j 0 n (omega arith), number-kept j 1 n (omega arith))

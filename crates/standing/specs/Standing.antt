@@ -29,5 +29,5 @@ startStanding a b c stand k =
     cond (leb (numberOf stand k 1) (length (sliceOf a b c (numberOf stand k 0)))) (numberOf stand k 1) 0
 
 -- the list with file k put somewhere
-unfoldable pub placed : List ℕ → ℕ → ℕ → ℕ → ℕ → List ℕ
-placed stand k which from to = set (set (set stand (3 * k) which) (3 * k + 1) from) (3 * k + 2) to
+unfoldable pub standingWith : List ℕ → ℕ → ℕ → ℕ → ℕ → List ℕ
+standingWith stand k which from to = set (set (set stand (3 * k) which) (3 * k + 1) from) (3 * k + 2) to

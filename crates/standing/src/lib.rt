@@ -6,7 +6,7 @@ ghost use Prim.Native.Nat.{_+_, _*_, _≤_, _<_, _/_};
 ghost use lib.ListN.{length};
 ghost use lib.Dec.{ltb};
 ghost use Rattle.parts.specs.Files.{bytesOf};
-ghost use Rattle.standing.specs.Standing.{numberOf, sliceOf, isThere, standing, startStanding, placed};
+ghost use Rattle.standing.specs.Standing.{numberOf, sliceOf, isThere, standing, startStanding, standingWith};
 use parts::part;
 
 // Number j of file k; 0 past the end of the list.
@@ -82,7 +82,7 @@ pub fn start_standing(a: &[u8], b: &[u8], c: &[u8], stand: &[usize], k: usize) -
 
 // Puts file k somewhere, where the list has numbers for it.
 pub fn place(stand: &mut [usize], k: usize, which: usize, from: usize, to: usize)
-    ensures { λ _. ⌜ now (stand .exit) ≡ cond (ltb k (length (now (stand .entry)) / 3)) (placed (now (stand .entry)) k which from to) (now (stand .entry)) ⌝ }
+    ensures { λ _. ⌜ now (stand .exit) ≡ cond (ltb k (length (now (stand .entry)) / 3)) (standingWith (now (stand .entry)) k which from to) (now (stand .entry)) ⌝ }
 {
     if k < stand.len() / 3 {
         let at = 3 * k;

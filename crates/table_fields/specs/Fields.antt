@@ -5,9 +5,9 @@ use Prim.Native.String.{String}
 use mathlib.Core.Bool.{Bool, true, false}
 use mathlib.Core.List.{List, [], _∷_}
 use lib.ListN.{getD}
-use Rattle.table_rows.specs.Ascii.{codes}
+use Rattle.json_bytes.specs.Ascii.{codes}
 use Rattle.table_rows.specs.Rows.{Field}
-use Rattle.table_rows.specs.Types.{boolean, date, decimal, integer, string, stringID, text}
+use Rattle.table_rows.specs.Types.{boolean, date, decimalType, integer, string, stringID, text}
 
 -- the column "Nullable": No, Yes and Conditional, which counts as nullable
 abbrev pub required : Bool
@@ -104,13 +104,13 @@ abbrev pub calendarWorkshifts : List Field
 calendarWorkshifts =
     field "CalendarID" stringID required
     ∷ field "Ordinal" integer optional
-    ∷ field "SundayWorkHours" decimal optional
-    ∷ field "MondayWorkHours" decimal optional
-    ∷ field "TuesdayWorkHours" decimal optional
-    ∷ field "WednesdayWorkHours" decimal optional
-    ∷ field "ThursdayWorkHours" decimal optional
-    ∷ field "FridayWorkHours" decimal optional
-    ∷ field "SaturdayWorkHours" decimal optional
+    ∷ field "SundayWorkHours" decimalType optional
+    ∷ field "MondayWorkHours" decimalType optional
+    ∷ field "TuesdayWorkHours" decimalType optional
+    ∷ field "WednesdayWorkHours" decimalType optional
+    ∷ field "ThursdayWorkHours" decimalType optional
+    ∷ field "FridayWorkHours" decimalType optional
+    ∷ field "SaturdayWorkHours" decimalType optional
     ∷ []
 
 -- 2.2.8
@@ -118,7 +118,7 @@ abbrev pub calendarExceptions : List Field
 calendarExceptions =
     field "CalendarID" stringID required
     ∷ field "ExceptionDate" date required
-    ∷ field "WorkHours" decimal optional
+    ∷ field "WorkHours" decimalType optional
     ∷ []
 
 -- 2.2.9
@@ -148,25 +148,25 @@ abbrev pub taskScheduleData : List Field
 taskScheduleData =
     field "TaskID" stringID required
     ∷ field "CalendarID" stringID required
-    ∷ field "CurrentDuration" decimal required
+    ∷ field "CurrentDuration" decimalType required
     ∷ field "CurrentStartDate" date required
     ∷ field "CurrentFinishDate" date required
     ∷ field "EarlyStartDate" date required
     ∷ field "EarlyFinishDate" date required
     ∷ field "LateStartDate" date required
     ∷ field "LateFinishDate" date required
-    ∷ field "FreeFloatDuration" decimal required
-    ∷ field "TotalFloatDuration" decimal required
+    ∷ field "FreeFloatDuration" decimalType required
+    ∷ field "TotalFloatDuration" decimalType required
     ∷ field "OnCriticalPath" boolean required
     ∷ field "OnDrivingPath" boolean optional
-    ∷ field "BaselineDuration" decimal optional
+    ∷ field "BaselineDuration" decimalType optional
     ∷ field "BaselineStartDate" date optional
     ∷ field "BaselineFinishDate" date optional
-    ∷ field "StartVarianceDuration" decimal optional
-    ∷ field "FinishVarianceDuration" decimal optional
-    ∷ field "CalculatedPercentComplete" decimal required
-    ∷ field "PhysicalPercentComplete" decimal optional
-    ∷ field "RemainingDuration" decimal required
+    ∷ field "StartVarianceDuration" decimalType optional
+    ∷ field "FinishVarianceDuration" decimalType optional
+    ∷ field "CalculatedPercentComplete" decimalType required
+    ∷ field "PhysicalPercentComplete" decimalType optional
+    ∷ field "RemainingDuration" decimalType required
     ∷ field "ActualStartDate" date optional
     ∷ field "ActualFinishDate" date optional
     ∷ []
@@ -202,7 +202,7 @@ taskRelationships =
     field "PredecessorTaskID" stringID required
     ∷ field "SuccessorTaskID" stringID required
     ∷ field "RelationshipTypeID" stringID required
-    ∷ field "LagDuration" decimal optional
+    ∷ field "LagDuration" decimalType optional
     ∷ field "LagCalendarID" stringID optional
     ∷ []
 
@@ -244,13 +244,13 @@ abbrev pub resourceAssignments : List Field
 resourceAssignments =
     field "ResourceID" stringID required
     ∷ field "TaskID" stringID required
-    ∷ field "Budget_AtCompletion_Dollars" decimal optional
-    ∷ field "Budget_AtCompletion_Hours" decimal optional
-    ∷ field "Estimate_ToComplete_Dollars" decimal optional
-    ∷ field "Estimate_ToComplete_Hours" decimal optional
-    ∷ field "Actual_ToDate_Dollars" decimal optional
-    ∷ field "Actual_ToDate_Hours" decimal optional
-    ∷ field "PhysicalPercentComplete" decimal optional
+    ∷ field "Budget_AtCompletion_Dollars" decimalType optional
+    ∷ field "Budget_AtCompletion_Hours" decimalType optional
+    ∷ field "Estimate_ToComplete_Dollars" decimalType optional
+    ∷ field "Estimate_ToComplete_Hours" decimalType optional
+    ∷ field "Actual_ToDate_Dollars" decimalType optional
+    ∷ field "Actual_ToDate_Hours" decimalType optional
+    ∷ field "PhysicalPercentComplete" decimalType optional
     ∷ []
 
 -- file 0, FileType.txt, is no table

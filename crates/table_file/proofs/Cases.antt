@@ -11,9 +11,9 @@ use lib.Dec.{ltb, leb}
 use Rattle.table_file.proofs.Opens.{open-files}
 use Rattle.json_bytes.proofs.FaultKinds.{below}
 use Rattle.parts.specs.Files.{File, Left, Given, bytesOf}
-use Rattle.table_rows.specs.Ascii.{codes}
+use Rattle.json_bytes.specs.Ascii.{codes}
 use Rattle.table_fields.specs.Fields.{fieldsOf, fileType}
-use Rattle.table_file.specs.Table.{namesRecord, holds, fault, TableRead, tableRead}
+use Rattle.table_file.specs.Table.{namesRecord, fileHolds, fault, TableRead, tableRead}
 use Rattle.table_file.specs.File.{Form, Fixed, Single, Records, Expected, fileOf}
 use Rattle.table_file.proofs.FaultKinds.{countOf, cellsOf, fileKinds}
 use Rattle.table_file.proofs.Many.{manyRecords, many-short, many-given}
@@ -47,7 +47,7 @@ files =
     []
 
 pub marks : map (λ file. resources file .read) files
-    ≡ (fault 19 27 0 ∷ fault 19 2 0 ∷ holds 0 ∷ holds 0 ∷ fault 11 2 0 ∷ fault 11 1 0 ∷ fault 11 0 0 ∷ fault 12 0 0 ∷ fault 12 1 0 ∷ fault 11 4 0 ∷ fault 12 1 0 ∷ fault 13 2 1 ∷ fault 15 51 2 ∷ [])
+    ≡ (fault 19 27 0 ∷ fault 19 2 0 ∷ fileHolds 0 ∷ fileHolds 0 ∷ fault 11 2 0 ∷ fault 11 1 0 ∷ fault 11 0 0 ∷ fault 12 0 0 ∷ fault 12 1 0 ∷ fault 11 4 0 ∷ fault 12 1 0 ∷ fault 13 2 1 ∷ fault 15 51 2 ∷ [])
 unfolding open-files
 marks = refl
 
@@ -56,7 +56,7 @@ abbrev two : String
 two = "[{\"ID\":\"1\",\"Name\":\"A\",\"ElementOfCostID\":\"X\"}, {\"Name\":\"B\",\"ID\":\"2\",\"ElementOfCostID\":\"Y\"}]"
 
 pub records : resources two
-    ≡ tableRead (7 ∷ 10 ∷ 18 ∷ 21 ∷ 40 ∷ 43 ∷ 0 ∷ 0 ∷ 63 ∷ 66 ∷ 54 ∷ 57 ∷ 85 ∷ 88 ∷ 0 ∷ 0 ∷ []) (holds 2)
+    ≡ tableRead (7 ∷ 10 ∷ 18 ∷ 21 ∷ 40 ∷ 43 ∷ 0 ∷ 0 ∷ 63 ∷ 66 ∷ 54 ∷ 57 ∷ 85 ∷ 88 ∷ 0 ∷ 0 ∷ []) (fileHolds 2)
 unfolding open-files
 records = refl
 
@@ -67,13 +67,13 @@ unfolding open-files
 singletons = refl
 
 -- 21: of the omitted files the required ones alone
-pub omissions : map (λ required. fileOf (expected (Records []) required) Left [] .read) (true ∷ false ∷ []) ≡ (fault 21 0 0 ∷ holds 0 ∷ [])
+pub omissions : map (λ required. fileOf (expected (Records []) required) Left [] .read) (true ∷ false ∷ []) ≡ (fault 21 0 0 ∷ fileHolds 0 ∷ [])
 unfolding open-files
 omissions = refl
 
 -- 22: a fixed text is exactly its bytes, and neither fewer nor more
 pub types : map (λ file. fileOf (expected (Fixed fileType) true) (Given (codes file)) [] .read) ("IPMDAR_SCHEDULE_PERFORMANCE_DATASET/1.0" ∷ "IPMDAR_SCHEDULE_PERFORMANCE_DATASET/1.0 " ∷ "IPMDAR_SCHEDULE_PERFORMANCE_DATASET/1." ∷ "" ∷ [])
-    ≡ (holds 0 ∷ fault 22 0 0 ∷ fault 22 0 0 ∷ fault 22 0 0 ∷ [])
+    ≡ (fileHolds 0 ∷ fault 22 0 0 ∷ fault 22 0 0 ∷ fault 22 0 0 ∷ [])
 unfolding open-files
 types = refl
 

@@ -20,7 +20,7 @@ use Rattle.table_value.specs.Value.{opens, tokenAt, notObjectOf, notObjectAt}
 use Rattle.table_name.specs.Name.{firstIn, nextAfter}
 use Rattle.table_name.specs.declared.Next.{Next}
 use Rattle.table_name.specs.declared.Next.the-variants.{More, Ends, Neither}
-use Rattle.table_record.specs.Record.{Filled, filled, recordAt}
+use Rattle.table_record.specs.Record.{Filled, cellsFilled, recordAt}
 use Rattle.table_record.proofs.Bounds.{NextIn, next-in, first-in, record-in}
 use Rattle.table_file.specs.Table.{
   fault,
@@ -34,7 +34,7 @@ use Rattle.table_file.specs.Table.{
   elementsFrom,
   elementsOf,
   arrayAt,
-  tableOf,
+  readTable,
 }
 use Rattle.table_file.proofs.Laws.{element-in}
 
@@ -130,11 +130,11 @@ module _ (most : ℕ) (fields : List Field) (s cells : List ℕ) (Q : Reading �
     array-holds at (Ends last) h = ways .of-end cells (last + 1) 0 refl (omega arith)
     array-holds at (Neither place) h = ways .of-fault cells 11 place 0 refl (ways .of-stop place)
 
-  other-holds : (at : ℕ) → P (singleOf s (filled cells (notObjectAt s at)))
-  other-holds at = single-holds (filled cells (notObjectAt s at)) refl (ways .of-other at)
+  other-holds : (at : ℕ) → P (singleOf s (cellsFilled cells (notObjectAt s at)))
+  other-holds at = single-holds (cellsFilled cells (notObjectAt s at)) refl (ways .of-other at)
 
-  pub table-holds : (single : Bool) → cond single 1 4096 ≤ most → P (tableOf single fields s cells)
-  unfolding tableOf singleAt arrayAt
+  pub table-holds : (single : Bool) → cond single 1 4096 ≤ most → P (readTable single fields s cells)
+  unfolding readTable singleAt arrayAt
   table-holds single room =
       let at = spacesEnd s 0 in
       by-test P single _ _

@@ -17,11 +17,11 @@ use Rattle.json_same.specs.Same.{sameList}
 use Rattle.table_rows.specs.Rows.{Field}
 use Rattle.table_value.specs.Value.{textType, notObjectAt}
 use Rattle.table_value.proofs.FaultKinds.{otherKinds, not-object-kinds}
-use Rattle.table_record.specs.Record.{hasRoom, recordAt}
+use Rattle.table_record.specs.Record.{recordHasRoom, recordAt}
 use Rattle.table_record.proofs.FaultKinds.{recordKinds, record-kinds}
 use Rattle.table_record.proofs.Laws.{room-is}
 use Rattle.table_file.specs.declared.FileRead.{FileRead}
-use Rattle.table_file.specs.Table.{TableRead, endOfFile, tableOf}
+use Rattle.table_file.specs.Table.{TableRead, endOfFile, readTable}
 use Rattle.table_file.specs.File.{Form, Fixed, Single, Records, Expected, omitted, fixedRead, readAs, fileOf}
 use Rattle.table_file.proofs.Elements.{table-holds}
 
@@ -45,12 +45,12 @@ pub record Room (records : ℕ) (fields : List Field) (s cells : List ℕ) : Typ
 
 -- a singleton has one record, any other table 4,096 at most
 module _ (fields : List Field) (s cells : List ℕ) (single : Bool) (all : Room (cond single 1 4096) fields s cells) where
-  room-at : (now : List ℕ) (r : ℕ) → length now ≡ length cells → r < cond single 1 4096 → hasRoom s now (r * (2 * length fields)) (length fields) ≡ true
+  room-at : (now : List ℕ) (r : ℕ) → length now ≡ length cells → r < cond single 1 4096 → recordHasRoom s now (r * (2 * length fields)) (length fields) ≡ true
   room-at now r e l =
       room-is s now (r * (2 * length fields)) (length fields) (all .small) (all .few)
       (omega (arith, all .room, mul-le-mul-right {m = r + 1} {n = cond single 1 4096} (2 * length fields) (omega arith), add-mul r 1 (2 * length fields)))
 
-  pub table-kinds : In tableKinds (tableOf single fields s cells .read .kind)
+  pub table-kinds : In tableKinds (readTable single fields s cells .read .kind)
   table-kinds =
       table-holds (cond single 1 4096) fields s cells (Faults tableKinds) (λ (f : TableRead). Marked (f .read))
       (record {
@@ -92,9 +92,9 @@ form-kinds : (form : Form) (s cells : List ℕ) → FormRoom form s cells → Of
 unfolding readAs fixedRead
 form-kinds (Fixed text) s cells room = either OfFile (sameList s text) _ _ refl refl
 form-kinds (Single fields) s cells room =
-    of-table (tableOf true fields s cells .read .kind) (table-kinds fields s cells true room)
+    of-table (readTable true fields s cells .read .kind) (table-kinds fields s cells true room)
 form-kinds (Records fields) s cells room =
-    of-table (tableOf false fields s cells .read .kind) (table-kinds fields s cells false room)
+    of-table (readTable false fields s cells .read .kind) (table-kinds fields s cells false room)
 
 pub file-kinds : (e : Expected) (f : File) (cells : List ℕ) → FormRoom (e .form) (bytesOf f) cells → In fileKinds (fileOf e f cells .read .kind)
 unfolding fileOf omitted bytesOf

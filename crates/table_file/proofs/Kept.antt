@@ -15,7 +15,7 @@ use Rattle.parts.specs.Files.{File, Left, Given}
 use Rattle.json_same.specs.Same.{sameList}
 use Rattle.table_rows.specs.Rows.{Field}
 use Rattle.table_file.specs.declared.FileRead.{FileRead}
-use Rattle.table_file.specs.Table.{namesRecord, companionOf, holds, fault, TableRead, tableRead, endOfFile, tableOf}
+use Rattle.table_file.specs.Table.{namesRecord, companionOf, fileHolds, fault, TableRead, tableRead, endOfFile, readTable}
 use Rattle.table_file.specs.File.{Form, Fixed, Single, Records, Expected, omitted, fixedRead, readAs, fileOf}
 use Rattle.table_file.proofs.Elements.{table-holds}
 
@@ -29,7 +29,7 @@ counted-fault : (kind place r : ℕ) → Counted (fault kind place r)
 unfolding companionOf
 counted-fault kind place r = record { few = omega arith; none = λ _. refl; alone = λ e. rw e }
 
-counted-holds : (records : ℕ) → records ≤ 4096 → Counted (holds records)
+counted-holds : (records : ℕ) → records ≤ 4096 → Counted (fileHolds records)
 counted-holds records l = record { few = l; none = λ e. absurd (e refl); alone = λ _. refl }
 
 counted-end : (s : List ℕ) (at records : ℕ) → records ≤ 4096 → Counted (endOfFile s at records)
@@ -42,7 +42,7 @@ record Kept (cells : List ℕ) (f : TableRead) : Type 0 where
   same : length (f .cells) ≡ length cells
   counted : Counted (f .read)
 
-kept-table : (fields : List Field) (s : List ℕ) (single : Bool) (cells : List ℕ) → Kept cells (tableOf single fields s cells)
+kept-table : (fields : List Field) (s : List ℕ) (single : Bool) (cells : List ℕ) → Kept cells (readTable single fields s cells)
 kept-table fields s single cells =
     table-holds 4096 fields s cells (λ _. Unit {0}) (Kept cells)
     (record {

@@ -26,7 +26,7 @@ use Rattle.table_value.proofs.Bounds.{not-object-in}
 use Rattle.table_name.specs.Name.{firstIn, nextAfter}
 use Rattle.table_name.specs.declared.Next.{Next}
 use Rattle.table_name.specs.declared.Next.the-variants.{More, Ends, Neither}
-use Rattle.table_record.specs.Record.{Filled, filled, hasRoom, recordAt}
+use Rattle.table_record.specs.Record.{Filled, cellsFilled, recordHasRoom, recordAt}
 use Rattle.table_record.proofs.Bounds.{NextIn, next-in, first-in, record-in}
 use Rattle.table_record.proofs.Laws.{record-none}
 use Rattle.table_file.specs.declared.FileRead.{FileRead}
@@ -43,7 +43,7 @@ use Rattle.table_file.specs.Table.{
   elementsFrom,
   elementsOf,
   arrayAt,
-  tableOf,
+  readTable,
 }
 use Rattle.table_file.specs.File.{omitted, fixedRead, readAs, fileOf, formFrom, expectedFrom}
 
@@ -63,8 +63,8 @@ neither-is true = refl
 neither-is false = refl
 
 -- a record of more than 64 fields has no room
-room-wide : (s cells : List ℕ) (base count : ℕ) → 64 < count → hasRoom s cells base count ≡ false
-unfolding hasRoom
+room-wide : (s cells : List ℕ) (base count : ℕ) → 64 < count → recordHasRoom s cells base count ≡ false
+unfolding recordHasRoom
 room-wide s cells base count l = rw (lt-leb count 64 l) (neither-is (ltb (length s) 4294967296))
 
 -- where a record's cells start is a small number
@@ -75,12 +75,12 @@ module _ (rows names : List ℕ) (count : ℕ) (s : List ℕ) (at : ℕ) (cells 
   abbrev fields : List Field
   fields = fieldsFrom rows names count 0
 
-  pub element-other : (b ≡ 123 → ⊥) → (x : Reading) → x ≡ notObjectAt s at → filled cells x ≡ elementAt fields s at cells r
+  pub element-other : (b ≡ 123 → ⊥) → (x : Reading) → x ≡ notObjectAt s at → cellsFilled cells x ≡ elementAt fields s at cells r
   unfolding elementAt
   element-other e x isOther = rw (← isByte, ne-eqb b 123 e, isOther)
 
   module _ (brace : b ≡ 123) where
-    pub element-many : 4096 ≤ r → filled cells (Fault 20 at) ≡ elementAt fields s at cells r
+    pub element-many : 4096 ≤ r → cellsFilled cells (Fault 20 at) ≡ elementAt fields s at cells r
     unfolding elementAt
     element-many l = rw (← isByte, eq-eqb b 123 brace, le-ltb r 4096 l)
 
@@ -88,14 +88,14 @@ module _ (rows names : List ℕ) (count : ℕ) (s : List ℕ) (at : ℕ) (cells 
     unfolding elementAt
     element-record l = rw (← isByte, eq-eqb b 123 brace, lt-ltb r 4096 l, fields-length rows names count 0)
 
-    pub element-wide : r < 4096 → 64 < count → filled cells (Fault 99 at) ≡ elementAt fields s at cells r
+    pub element-wide : r < 4096 → 64 < count → cellsFilled cells (Fault 99 at) ≡ elementAt fields s at cells r
     element-wide l m =
         record-none rows names count s at cells (r * (2 * count)) false (sym (room-wide s cells (r * (2 * count)) count m)) refl
         ∙ element-record l
 
-    pub element-object : r < 4096 → (then : List ℕ) (x : Reading) → x ≡ recordAt fields s at cells (r * (2 * count)) .outcome → then ≡ recordAt fields s at cells (r * (2 * count)) .cells → filled then x ≡ elementAt fields s at cells r
+    pub element-object : r < 4096 → (then : List ℕ) (x : Reading) → x ≡ recordAt fields s at cells (r * (2 * count)) .outcome → then ≡ recordAt fields s at cells (r * (2 * count)) .cells → cellsFilled then x ≡ elementAt fields s at cells r
     element-object l then x isRecord isThen =
-        let z : filled then x ≡ recordAt fields s at cells (r * (2 * count)) = rw (isRecord, isThen) in
+        let z : cellsFilled then x ≡ recordAt fields s at cells (r * (2 * count)) = rw (isRecord, isThen) in
         z ∙ element-record l
 
 -- an element lies within the file
@@ -119,7 +119,7 @@ pub left-all : (fields : List Field) (s cells : List ℕ) (at : ℕ) → 0 < at 
 left-all fields s cells at p l =
     record { fuel = length s; inside = l; behind = omega arith; enough = omega arith; reads = refl }
 
-module _ (fields : List Field) (s : List ℕ) (whole : TableRead) (cells : List ℕ) (at r : ℕ) (then : List ℕ) (o : Reading) (isElement : filled then o ≡ elementAt fields s at cells r) where
+module _ (fields : List Field) (s : List ℕ) (whole : TableRead) (cells : List ℕ) (at r : ℕ) (then : List ℕ) (o : Reading) (isElement : cellsFilled then o ≡ elementAt fields s at cells r) where
   outcome-told : elementAt fields s at cells r .outcome ≡ o
   outcome-told = sym (ap (λ (f : Filled). f .outcome) isElement)
 
@@ -224,12 +224,12 @@ pub both : (f g : TableRead) → f ≡ g → (f .read ≡ g .read) × (f .cells 
 both f g e = (ap (λ (x : TableRead). x .read) e, ap (λ (x : TableRead). x .cells) e)
 
 module _ (fields : List Field) (s cells : List ℕ) (at : ℕ) (isStart : at ≡ spacesEnd s 0) (single : Bool) (f : TableRead) where
-  pub table-single : single ≡ true → f ≡ singleAt fields s cells at → f ≡ tableOf single fields s cells
-  unfolding tableOf
+  pub table-single : single ≡ true → f ≡ singleAt fields s cells at → f ≡ readTable single fields s cells
+  unfolding readTable
   table-single e isSingle = rw (e, ← isStart) isSingle
 
-  pub table-array : single ≡ false → f ≡ arrayAt fields s cells at → f ≡ tableOf single fields s cells
-  unfolding tableOf
+  pub table-array : single ≡ false → f ≡ arrayAt fields s cells at → f ≡ readTable single fields s cells
+  unfolding readTable
   table-array e isArray = rw (e, ← isStart) isArray
 
 -- ---- two lists of bytes
@@ -261,11 +261,11 @@ module _ (form : ℕ) (required : Bool) (text : List ℕ) (fields : List Field) 
   file-omitted e x isRead = rw (e, isRead)
 
   module _ (e : present ≡ true) where
-    pub file-array : form ≡ 0 → (then : List ℕ) (x : FileRead) → x ≡ tableOf false fields s cells .read → then ≡ tableOf false fields s cells .cells → tableRead then x ≡ fileOf (expectedFrom form required text fields) (newFile present s) cells
+    pub file-array : form ≡ 0 → (then : List ℕ) (x : FileRead) → x ≡ readTable false fields s cells .read → then ≡ readTable false fields s cells .cells → tableRead then x ≡ fileOf (expectedFrom form required text fields) (newFile present s) cells
     unfolding fileOf newFile formFrom readAs
     file-array z then x isRead isThen = rw (e, eq-eqb form 0 z, isRead, isThen)
 
-    pub file-object : (form ≡ 0 → ⊥) → form ≡ 1 → (then : List ℕ) (x : FileRead) → x ≡ tableOf true fields s cells .read → then ≡ tableOf true fields s cells .cells → tableRead then x ≡ fileOf (expectedFrom form required text fields) (newFile present s) cells
+    pub file-object : (form ≡ 0 → ⊥) → form ≡ 1 → (then : List ℕ) (x : FileRead) → x ≡ readTable true fields s cells .read → then ≡ readTable true fields s cells .cells → tableRead then x ≡ fileOf (expectedFrom form required text fields) (newFile present s) cells
     unfolding fileOf newFile formFrom readAs
     file-object n z then x isRead isThen = rw (e, ne-eqb form 0 n, eq-eqb form 1 z, isRead, isThen)
 

@@ -16,9 +16,9 @@ use Rattle.json_bytes.proofs.Laws.{inside, run-stops}
 use Rattle.parts.specs.Files.{Given}
 use Rattle.table_name.specs.Name.{firstIn, nextAfter}
 use Rattle.table_name.specs.declared.Next.the-variants.{More, Ends}
-use Rattle.table_record.specs.Record.{filled, isMissing, closedAt, membersOf, cleared}
+use Rattle.table_record.specs.Record.{cellsFilled, isMissing, closedAt, membersOf, cleared}
 use Rattle.table_record.proofs.Laws.{room-is, record-room}
-use Rattle.table_file.specs.Table.{elementAt, elementsFrom, elementsOf, arrayAt, tableOf}
+use Rattle.table_file.specs.Table.{elementAt, elementsFrom, elementsOf, arrayAt, readTable}
 use Rattle.table_file.specs.File.{Records, readAs, fileOf}
 
 -- n records `{}`, each with a comma behind it, and the brace of one more
@@ -80,7 +80,7 @@ module _ (s : List ℕ) where
           stays (at + 1 + 1 + 1) 123 _ behind (lit< tt) refl,
         )
 
-    element-is : (r : ℕ) → r < 4096 → elementAt [] s at [] r ≡ filled [] (Whole (at + 1 + 1))
+    element-is : (r : ℕ) → r < 4096 → elementAt [] s at [] r ≡ cellsFilled [] (Whole (at + 1 + 1))
     unfolding elementAt membersOf closedAt isMissing cleared
     element-is r l =
         rw (
@@ -111,8 +111,8 @@ module _ (s : List ℕ) where
       rw (turn small at (first .0) all f r (omega arith))
       (elements-are small n f (at + 1 + 1 + 1) (r + 1) (behind small at (first .0) all ∙ sym (first .1)) (omega arith) (omega arith))
 
-  table-is : length s < 2 ^ 32 → 4096 < length s → drop 0 s ≡ 91 ∷ empties 4096 → tableOf false [] s [] .read .kind ≡ 20
-  unfolding tableOf arrayAt elementsOf firstIn isSpace
+  table-is : length s < 2 ^ 32 → 4096 < length s → drop 0 s ≡ 91 ∷ empties 4096 → readTable false [] s [] .read .kind ≡ 20
+  unfolding readTable arrayAt elementsOf firstIn isSpace
   table-is small long is =
       let first = empties-first 4096 in
       let opened = next 0 91 _ is ∙ first .1 in

@@ -8,7 +8,7 @@ use Rattle.parts.specs.Files.{File, Left, Given}
 use Rattle.json_same.specs.Same.{sameList}
 use Rattle.table_rows.specs.Rows.{Field}
 use Rattle.table_file.specs.declared.FileRead.{FileRead}
-use Rattle.table_file.specs.Table.{TableRead, tableRead, holds, fault, tableOf}
+use Rattle.table_file.specs.Table.{TableRead, tableRead, fileHolds, fault, readTable}
 
 -- what a file is to be: exactly these bytes, an object with these fields, or an array of such objects
 pub data Form : Type 0 where
@@ -22,16 +22,16 @@ pub record Expected : Type 0 where
 
 -- 21: a required file omitted; "Any other omitted file holds and has no records."
 unfoldable pub omitted : Bool → FileRead
-omitted required = cond required (fault 21 0 0) (holds 0)
+omitted required = cond required (fault 21 0 0) (fileHolds 0)
 
 -- 22: the file "isn't exactly" the text; only 21 and 22 concern such a file
 unfoldable pub fixedRead : List ℕ → List ℕ → FileRead
-fixedRead text s = cond (sameList s text) (holds 0) (fault 22 0 0)
+fixedRead text s = cond (sameList s text) (fileHolds 0) (fault 22 0 0)
 
 unfoldable pub readAs : Form → List ℕ → List ℕ → TableRead
 readAs (Fixed text) s cells = tableRead cells (fixedRead text s)
-readAs (Single fields) s cells = tableOf true fields s cells
-readAs (Records fields) s cells = tableOf false fields s cells
+readAs (Single fields) s cells = readTable true fields s cells
+readAs (Records fields) s cells = readTable false fields s cells
 
 unfoldable pub fileOf : Expected → File → List ℕ → TableRead
 fileOf e Left cells = tableRead cells (omitted (e .required))

@@ -6,8 +6,8 @@ ghost use lib.ListN.{length};
 ghost use Rattle.parts.specs.Files.{newFile};
 ghost use Rattle.json_same.specs.Same.{sameList};
 ghost use Rattle.table_rows.specs.Rows.{fieldsFrom};
-ghost use Rattle.table_record.specs.Record.{filled};
-ghost use Rattle.table_file.specs.Table.{tableRead, endOfFile, singleRead, singleAt, elementAt, elementsFrom, arrayAt, tableOf, companionOf};
+ghost use Rattle.table_record.specs.Record.{cellsFilled};
+ghost use Rattle.table_file.specs.Table.{tableRead, endOfFile, singleRead, singleAt, elementAt, elementsFrom, arrayAt, readTable, companionOf};
 ghost use Rattle.table_file.specs.File.{omitted, fixedRead, fileOf, expectedFrom};
 use json_bytes::Reading;
 use json_bytes::byte_at;
@@ -111,7 +111,7 @@ fn element_at(
     cells: &mut [u32],
     r: usize,
 ) -> Reading
-    ensures { λ x. ⌜ filled (now (cells .exit)) x ≡ elementAt (fieldsFrom (now (rows .entry)) (now (names .entry)) count 0) (now (s .entry)) at (now (cells .entry)) r ⌝ }
+    ensures { λ x. ⌜ cellsFilled (now (cells .exit)) x ≡ elementAt (fieldsFrom (now (rows .entry)) (now (names .entry)) count 0) (now (s .entry)) at (now (cells .entry)) r ⌝ }
 {
     if byte_at(s, at) != b'{' {
         return not_object_at(s, at);
@@ -213,8 +213,8 @@ pub fn read_table(
     count: usize,
     cells: &mut [u32],
 ) -> FileRead
-    ensures { λ r. ⌜ r ≡ tableOf single (fieldsFrom (now (rows .entry)) (now (names .entry)) count 0) (now (s .entry)) (now (cells .entry)) .read ⌝ }
-    ensures { λ _. ⌜ now (cells .exit) ≡ tableOf single (fieldsFrom (now (rows .entry)) (now (names .entry)) count 0) (now (s .entry)) (now (cells .entry)) .cells ⌝ }
+    ensures { λ r. ⌜ r ≡ readTable single (fieldsFrom (now (rows .entry)) (now (names .entry)) count 0) (now (s .entry)) (now (cells .entry)) .read ⌝ }
+    ensures { λ _. ⌜ now (cells .exit) ≡ readTable single (fieldsFrom (now (rows .entry)) (now (names .entry)) count 0) (now (s .entry)) (now (cells .entry)) .cells ⌝ }
 {
     let at = skip_spaces(s, 0);
     if single {

@@ -5,10 +5,10 @@ use Prim.Native.String.{String}
 use mathlib.Core.Path.{_≡_, refl}
 use mathlib.Core.Bool.{false}
 use mathlib.Core.List.{List, [], _∷_, map}
-use Rattle.table_rows.specs.Ascii.{codes}
+use Rattle.json_bytes.specs.Ascii.{codes}
 use Rattle.table_rows.specs.Rows.{Field}
 use Rattle.table_rows.specs.Types.{string}
-use Rattle.table_file.specs.Table.{tableOf}
+use Rattle.table_file.specs.Table.{readTable}
 use Rattle.table_file.proofs.Opens.{open-files}
 
 abbrev fields : List Field
@@ -20,7 +20,7 @@ cells = 0 ∷ 0 ∷ 0 ∷ 0 ∷ 0 ∷ 0 ∷ []
 
 abbrev answer : String → List ℕ
 answer file =
-    let read = tableOf false fields (codes file) cells .read in
+    let read = readTable false fields (codes file) cells .read in
     read .kind ∷ read .companion ∷ []
 
 pub named : map answer (

@@ -24,7 +24,7 @@ use Rattle.table_record.specs.Record.{startCell, endCell, typeOf}
 use Rattle.rule_cells.specs.Cells.{cellOf, startOf, isGiven}
 use Rattle.rule_cells.proofs.Laws.{cell-is}
 use Rattle.table_meaning.proofs.Typed.{held-typed, typed-text}
-use Rattle.table_meaning.specs.Meaning.{_∈_, Span, Member, member, Says, IsValue, IsNull, IsAbsent, isNullable, Gives, HeldIn, recordIn, Means, widthOf}
+use Rattle.table_meaning.specs.Meaning.{_∈_, Span, Member, member, Says, IsValue, IsNull, IsAbsent, isNullable, Gives, HeldIn, recordIn, Means, recordWidth}
 
 -- ---- the two cells of a field of a record
 module _ (fields : List Field) (s : List ℕ) (x : Span) (cells : List ℕ) (base : ℕ) (gives : Gives fields s x cells base) (k : ℕ) where
@@ -68,19 +68,19 @@ module _ (fields : List Field) (s : List ℕ) (x : Span) (cells : List ℕ) (bas
 -- ---- a field of a record of a table, as a rule reads it
 module _ (single : Bool) (fields : List Field) (s cells : List ℕ) (n : ℕ) (means : Means single fields s cells n) (r : ℕ) (l : r < n) (k : ℕ) (m : k < length fields) where
   abbrev given : Bool
-  given = isGiven cells (widthOf fields) r k
+  given = isGiven cells (recordWidth fields) r k
 
   abbrev start : ℕ
-  start = startOf cells (widthOf fields) r k
+  start = startOf cells (recordWidth fields) r k
 
   abbrev end : ℕ
-  end = cellOf cells (widthOf fields) r (2 * k + 1)
+  end = cellOf cells (recordWidth fields) r (2 * k + 1)
 
-  abbrev here : Gives fields s (recordIn (means .records) r) cells (r * widthOf fields)
+  abbrev here : Gives fields s (recordIn (means .records) r) cells (r * recordWidth fields)
   here = means .gives r l
 
-  cell-read : (j : ℕ) → j ≤ 2 * k + 1 → cellOf cells (widthOf fields) r j ≡ getD cells (r * widthOf fields + j) 0
-  cell-read j h = cell-is cells (widthOf fields) r j (omega (arith, l, means .few)) (omega (arith, means .narrow r l)) (omega (arith, means .narrow r l))
+  cell-read : (j : ℕ) → j ≤ 2 * k + 1 → cellOf cells (recordWidth fields) r j ≡ getD cells (r * recordWidth fields + j) 0
+  cell-read j h = cell-is cells (recordWidth fields) r j (omega (arith, l, means .few)) (omega (arith, means .narrow r l)) (omega (arith, means .narrow r l))
 
   -- what the two cells say of the record, as a rule reads them
   pub says : Says (here .members) k start end

@@ -20,7 +20,7 @@ use Rattle.json_chars.specs.Chars.{charsAt}
 use Rattle.json_chars.specs.declared.Step.{Step}
 use Rattle.json_chars.specs.declared.Step.the-variants.{Char, Close, Bad as BadStep}
 use Rattle.json_chars.proofs.Bounds.{Good, step-good}
-use Rattle.json_text.specs.Text.{textAt, ruleOf, none, wrongHere, firstOf, closesAt, wrongFrom, wrongAt, textRead}
+use Rattle.json_text.specs.Text.{textAt, ruleBroken, none, wrongHere, firstWrong, closesAt, wrongFrom, wrongAt, textRead}
 use Rattle.json_text.specs.declared.TextType.{TextType}
 use Rattle.json_text.specs.declared.Wrong.{Wrong}
 use Rattle.json_text.proofs.Bounds.{text-within}
@@ -45,7 +45,7 @@ use Rattle.table_name.specs.declared.NameRead.the-variants.{Unknown}
 use Rattle.table_name.specs.declared.Next.{Next}
 use Rattle.table_name.specs.declared.Next.the-variants.{More, Ends, Neither}
 use Rattle.table_name.proofs.FaultKinds.{colonKinds, colon-kinds}
-use Rattle.table_record.specs.Record.{Filled, filled, isRead, cleared, typeOf, storedValue, afterColon, afterName, pairAt, isMissing, closedAt, pairsFrom, membersOf, hasRoom, recordAt}
+use Rattle.table_record.specs.Record.{Filled, cellsFilled, isRead, cleared, typeOf, storedValue, afterColon, afterName, pairAt, isMissing, closedAt, pairsFrom, membersOf, recordHasRoom, recordAt}
 use Rattle.table_record.proofs.Bounds.{NextIn, colon-in, next-in, first-in, pair-in}
 use Rattle.table_record.proofs.FaultKinds.{recordKinds, record-kinds, no-room-99}
 use Rattle.table_file.specs.Table.{namesRecord}
@@ -90,15 +90,15 @@ none-behind : (at : ℕ) → WrongBehind at none
 unfolding none
 none-behind at l = absurd (omega arith)
 
-first-behind : (at i rule : ℕ) (v : Wrong) → at ≤ i → WrongBehind at v → WrongBehind at (firstOf (wrongHere rule i) v)
-unfolding firstOf wrongHere
+first-behind : (at i rule : ℕ) (v : Wrong) → at ≤ i → WrongBehind at v → WrongBehind at (firstWrong (wrongHere rule i) v)
+unfolding firstWrong wrongHere
 first-behind at i rule v l h =
     by-test (WrongBehind at) (ltb 0 (wrongHere rule i .rule)) _ _
     (λ _. by-test (WrongBehind at) (ltb 0 rule) _ _ (λ _ _. l) (λ _. none-behind at)) (λ _. h)
 
 module _ (ty : TextType) (s : List ℕ) where
   step-behind : (f i : ℕ) (edge : Bool) → ((next : ℕ) (after : Bool) → next ≤ length s → WrongBehind next (wrongFrom f ty s next after)) → (t : Step) → Good s i t → WrongBehind i (elim t [
-    | Char code next ↦ firstOf (wrongHere (ruleOf ty code (edge || closesAt s next)) i) (wrongFrom f ty s next (eqb code 32))
+    | Char code next ↦ firstWrong (wrongHere (ruleBroken ty code (edge || closesAt s next)) i) (wrongFrom f ty s next (eqb code 32))
     | Close ↦ none
     | BadStep kind place ↦ none
   ])
@@ -253,7 +253,7 @@ module _ (fields : List Field) (s : List ℕ) (base : ℕ) where
   unfolding closedAt
   closed-found cells at = by-test (Found at) (isMissing fields cells base 0) _ _ (λ _ _. omega arith) (λ _. tt)
 
-  of-next : (n : ℕ) (cells : List ℕ) (end : ℕ) → ((next : ℕ) → next ≤ length s → FilledFound next (pairsFrom n fields s next cells base)) → (x : Next) → NextIn s end x → FilledFound end (elim x [ More next ↦ pairsFrom n fields s next cells base | Ends last ↦ filled cells (closedAt fields cells base last) | Neither place ↦ filled cells (Fault 11 place) ])
+  of-next : (n : ℕ) (cells : List ℕ) (end : ℕ) → ((next : ℕ) → next ≤ length s → FilledFound next (pairsFrom n fields s next cells base)) → (x : Next) → NextIn s end x → FilledFound end (elim x [ More next ↦ pairsFrom n fields s next cells base | Ends last ↦ cellsFilled cells (closedAt fields cells base last) | Neither place ↦ cellsFilled cells (Fault 11 place) ])
   of-next n cells end rest (More next) h =
       later end next (omega (arith, h .0)) (pairsFrom n fields s next cells base .outcome) (rest next (h .1))
   of-next n cells end rest (Ends last) h = later end last (h .0) (closedAt fields cells base last) (closed-found cells last)
@@ -263,10 +263,10 @@ module _ (fields : List Field) (s : List ℕ) (base : ℕ) where
     | Whole end ↦
         elim (nextAfter s end 125) [
           | More next ↦ pairsFrom n fields s next cells base
-          | Ends last ↦ filled cells (closedAt fields cells base last)
-          | Neither place ↦ filled cells (Fault 11 place)
+          | Ends last ↦ cellsFilled cells (closedAt fields cells base last)
+          | Neither place ↦ cellsFilled cells (Fault 11 place)
         ]
-    | Fault kind place ↦ filled cells (Fault kind place)
+    | Fault kind place ↦ cellsFilled cells (Fault kind place)
   ])
   of-pair n cells at rest (Whole end) w h =
       of-next n cells at rest (nextAfter s end 125) (sooner s at end (omega (arith, w .0)) (w .1) (nextAfter s end 125) (next-in s end (w .1) 125 (omega arith)))
@@ -289,7 +289,7 @@ module _ (fields : List Field) (s : List ℕ) (base : ℕ) where
   record-found : (cells : List ℕ) (at : ℕ) → Found at (recordAt fields s at cells base .outcome)
   unfolding recordAt ofRecord namesRecord within
   record-found cells at =
-      by-test (FilledFound at) (hasRoom s cells base (length fields)) _ _
+      by-test (FilledFound at) (recordHasRoom s cells base (length fields)) _ _
       (λ _. members-found (cleared cells base (2 * length fields)) at (firstIn s at 125) (first-in s at 125 (omega arith)))
       (λ _ e. absurd (false≢true e))
 
@@ -299,9 +299,9 @@ module _ (fields : List Field) (s : List ℕ) (base : ℕ) where
 
     pub record-kind : 10 ≤ kind
     unfolding below flatMap within textType
-    record-kind = go (hasRoom s cells base (length fields)) refl
+    record-kind = go (recordHasRoom s cells base (length fields)) refl
       where
-        go : (t : Bool) → hasRoom s cells base (length fields) ≡ t → 10 ≤ kind
+        go : (t : Bool) → recordHasRoom s cells base (length fields) ≡ t → 10 ≤ kind
         go true room =
             let h : In recordKinds kind = rw is at (record-kinds fields s base at cells room) in
             leb-true 10 kind (each (λ k. leb 10 k) recordKinds refl kind h)

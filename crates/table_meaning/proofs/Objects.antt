@@ -15,12 +15,12 @@ use Rattle.table_name.specs.declared.NameRead.the-variants.{Known}
 use Rattle.table_name.specs.declared.Next.the-variants.{Ends}
 use Rattle.table_record.specs.Record.{typeOf}
 use Rattle.table_record.proofs.Bounds.{NameIn, name-in, colon-in, first-in}
-use Rattle.table_meaning.specs.Meaning.{_∈_, Span, Member, spanOf, Stands, Object}
+use Rattle.table_meaning.specs.Meaning.{_∈_, Span, Member, spanOf, MemberStands, Object}
 use Rattle.table_meaning.proofs.Rows.{Proper, Behind, row-behind}
 
 module _ (fields : List Field) (s : List ℕ) where
   -- a name and its value stand one behind the other, and the name is one of the table's
-  pub stands-in : (m : Member) → Stands fields s m → m .name ≤ length s → (m .field < length fields) × (m .name < m .start) × (m .start < m .end) × (m .end ≤ length s)
+  pub stands-in : (m : Member) → MemberStands fields s m → m .name ≤ length s → (m .field < length fields) × (m .name < m .start) × (m .start < m .end) × (m .end ≤ length s)
   stands-in m stands l =
       let n : NameIn fields s (m .name) (Known (m .field) (stands .behind)) = rw (stands .named) at (name-in fields s (m .name) l) in
       let c : Within s (stands .behind) (Whole (m .start)) = rw (stands .colon) at (colon-in s (stands .behind) (n .1 .1)) in

@@ -29,7 +29,7 @@ use Rattle.table_name.specs.declared.Next.{Next}
 use Rattle.table_name.specs.declared.Next.the-variants.{More, Ends, Neither}
 use Rattle.table_record.specs.Record.{
   Filled,
-  filled,
+  cellsFilled,
   startCell,
   endCell,
   isRead,
@@ -45,12 +45,12 @@ use Rattle.table_record.specs.Record.{
   closedAt,
   pairsFrom,
   membersOf,
-  hasRoom,
+  recordHasRoom,
   recordAt,
 }
 use Rattle.table_record.proofs.Bounds.{NextIn, next-in, first-in, pair-in}
 use Rattle.table_record.proofs.Laws.{room-all}
-use Rattle.table_meaning.specs.Meaning.{_∈_, span, Row, Member, member, spanOf, Stands, Object, Says, IsValue, IsNull, IsAbsent, isNullable, Gives}
+use Rattle.table_meaning.specs.Meaning.{_∈_, span, Row, Member, member, spanOf, MemberStands, Object, Says, IsValue, IsNull, IsAbsent, isNullable, Gives}
 use Rattle.table_meaning.proofs.Objects.{stands-in, object-within}
 
 -- ---- the cells after a store
@@ -114,7 +114,7 @@ module _ (fields : List Field) (s : List ℕ) (base : ℕ) where
     field : ℕ
     start : ℕ
     null : Bool
-    stands : Stands fields s (member at field start end null)
+    stands : MemberStands fields s (member at field start end null)
     fresh : startCell cells base field ≡ 0
     is : f .cells ≡ stored cells base field start (written null end)
 
@@ -123,7 +123,7 @@ module _ (fields : List Field) (s : List ℕ) (base : ℕ) where
 
   module _ (at : ℕ) (cells : List ℕ) where
     module _ (k behind : ℕ) (named : nameAt fields s at ≡ Known k behind) (fresh : startCell cells base k ≡ 0) where
-      stored-pair : (start end : ℕ) (isNull : Bool) → colonAt s behind ≡ Whole start → valueAt s start (typeOf fields k) ≡ cond isNull (Null end) (Held end) → Paired at cells (filled (stored cells base k start (written isNull end)) (Whole end)) end
+      stored-pair : (start end : ℕ) (isNull : Bool) → colonAt s behind ≡ Whole start → valueAt s start (typeOf fields k) ≡ cond isNull (Null end) (Held end) → Paired at cells (cellsFilled (stored cells base k start (written isNull end)) (Whole end)) end
       stored-pair start end isNull colon isValue = record {
         field = k;
         start = start;
@@ -165,7 +165,7 @@ module _ (fields : List Field) (s : List ℕ) (base : ℕ) where
     last : ℕ
     row : Row s 125 next (map spanOf members) (Ends last)
     ends : end ≡ last + 1
-    stands : (m : Member) → m ∈ members → Stands fields s m
+    stands : (m : Member) → m ∈ members → MemberStands fields s m
     once : (m n : Member) → m ∈ members → n ∈ members → m .field ≡ n .field → m ≡ n
     fresh : (m : Member) → m ∈ members → startCell cells base (m .field) ≡ 0
     told : (m : Member) → m ∈ members → Told (f .cells) base (m .field) (m .start) (written (m .null) (m .end))
@@ -178,11 +178,11 @@ module _ (fields : List Field) (s : List ℕ) (base : ℕ) where
   abbrev Room : List ℕ → Type 0
   Room cells = base + 2 * length fields ≤ length cells
 
-  closed-rest : (cells : List ℕ) (last : ℕ) → Rests cells (Ends last) (filled cells (closedAt fields cells base last))
+  closed-rest : (cells : List ℕ) (last : ℕ) → Rests cells (Ends last) (cellsFilled cells (closedAt fields cells base last))
   unfolding closedAt
   closed-rest cells last end w = go (isMissing fields cells base 0) refl w
     where
-      go : (t : Bool) → isMissing fields cells base 0 ≡ t → cond t (Fault 19 last) (Whole (last + 1)) ≡ Whole end → Rest cells (Ends last) (filled cells (closedAt fields cells base last)) end
+      go : (t : Bool) → isMissing fields cells base 0 ≡ t → cond t (Fault 19 last) (Whole (last + 1)) ≡ Whole end → Rest cells (Ends last) (cellsFilled cells (closedAt fields cells base last)) end
       go true e w = fault-not-whole 19 last end w
       go false e w = record {
         members = [];
@@ -239,22 +239,22 @@ module _ (fields : List Field) (s : List ℕ) (base : ℕ) where
           told = let a = rest .kept (pair .field) apart in (a .0 ∙ here .0, a .1 ∙ here .1)
 
   -- what follows a name and its value, by what stands behind them
-  next-rest : (n : ℕ) (cells : List ℕ) → ((next : ℕ) → next ≤ length s → Rests cells (More next) (pairsFrom n fields s next cells base)) → (end : ℕ) (x : Next) → NextIn s end x → Rests cells x (elim x [ More next ↦ pairsFrom n fields s next cells base | Ends last ↦ filled cells (closedAt fields cells base last) | Neither place ↦ filled cells (Fault 11 place) ])
+  next-rest : (n : ℕ) (cells : List ℕ) → ((next : ℕ) → next ≤ length s → Rests cells (More next) (pairsFrom n fields s next cells base)) → (end : ℕ) (x : Next) → NextIn s end x → Rests cells x (elim x [ More next ↦ pairsFrom n fields s next cells base | Ends last ↦ cellsFilled cells (closedAt fields cells base last) | Neither place ↦ cellsFilled cells (Fault 11 place) ])
   next-rest n cells rest end (More next) h = rest next (h .1)
   next-rest n cells rest end (Ends last) h = closed-rest cells last
   next-rest n cells rest end (Neither place) h = λ e w. fault-not-whole 11 place e w
 
-  turn-rest : (n : ℕ) (cells then : List ℕ) (at : ℕ) → Room cells → at ≤ length s → ((next : ℕ) → next ≤ length s → Rests then (More next) (pairsFrom n fields s next then base)) → (r : Reading) → Within s at r → Pairs at cells (filled then r) → Rests cells (More at) (elim r [
+  turn-rest : (n : ℕ) (cells then : List ℕ) (at : ℕ) → Room cells → at ≤ length s → ((next : ℕ) → next ≤ length s → Rests then (More next) (pairsFrom n fields s next then base)) → (r : Reading) → Within s at r → Pairs at cells (cellsFilled then r) → Rests cells (More at) (elim r [
     | Whole end ↦
         elim (nextAfter s end 125) [
           | More next ↦ pairsFrom n fields s next then base
-          | Ends last ↦ filled then (closedAt fields then base last)
-          | Neither place ↦ filled then (Fault 11 place)
+          | Ends last ↦ cellsFilled then (closedAt fields then base last)
+          | Neither place ↦ cellsFilled then (Fault 11 place)
         ]
-    | Fault kind place ↦ filled then (Fault kind place)
+    | Fault kind place ↦ cellsFilled then (Fault kind place)
   ])
   turn-rest n cells then at room l rest (Whole e) h pairs = λ end w.
-      pair-rest at l cells room (filled then (Whole e)) e (pairs e refl) _ end
+      pair-rest at l cells room (cellsFilled then (Whole e)) e (pairs e refl) _ end
       (next-rest n then rest e (nextAfter s e 125) (next-in s e (h .1) 125 (omega arith)) end w)
   turn-rest n cells then at room l rest (Fault kind place) h pairs = λ end w. fault-not-whole kind place end w
 
@@ -335,7 +335,7 @@ module _ (fields : List Field) (s : List ℕ) (base : ℕ) where
     pub record-gives : byteAt s at ≡ 123 → (end : ℕ) → recordAt fields s at cells base .outcome ≡ Whole end → Gives fields s (span at end) (recordAt fields s at cells base .cells) base
     unfolding recordAt
     record-gives brace =
-        by-test (λ (f : Filled). (end : ℕ) → f .outcome ≡ Whole end → Gives fields s (span at end) (f .cells) base) (hasRoom s cells base (length fields)) _ _
+        by-test (λ (f : Filled). (end : ℕ) → f .outcome ≡ Whole end → Gives fields s (span at end) (f .cells) base) (recordHasRoom s cells base (length fields)) _ _
         (λ e end w. rest-gives _ end
         (members-rest (cleared cells base (2 * length fields)) at (omega (arith, room-all s cells base (length fields) e .1 .1, cleared-length cells base (2 * length fields)))
         (firstIn s at 125) (first-in s at 125 (omega arith)) end w) brace)
@@ -345,5 +345,5 @@ module _ (fields : List Field) (s : List ℕ) (base : ℕ) where
     pub record-narrow : (end : ℕ) → recordAt fields s at cells base .outcome ≡ Whole end → length fields ≤ 64
     unfolding recordAt
     record-narrow =
-        by-test (λ (f : Filled). (end : ℕ) → f .outcome ≡ Whole end → length fields ≤ 64) (hasRoom s cells base (length fields)) _ _
+        by-test (λ (f : Filled). (end : ℕ) → f .outcome ≡ Whole end → length fields ≤ 64) (recordHasRoom s cells base (length fields)) _ _
         (λ e _ _. room-all s cells base (length fields) e .1 .0) (λ _ end w. fault-not-whole 99 at end w)

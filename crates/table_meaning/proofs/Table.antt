@@ -20,11 +20,11 @@ use Rattle.table_rows.specs.Rows.{Field}
 use Rattle.table_value.specs.Value.{notObjectAt}
 use Rattle.table_name.specs.Name.{firstIn}
 use Rattle.table_name.specs.declared.Next.the-variants.{More, Ends}
-use Rattle.table_record.specs.Record.{filled, recordAt}
+use Rattle.table_record.specs.Record.{cellsFilled, recordAt}
 use Rattle.table_record.proofs.Bounds.{first-in}
-use Rattle.table_file.specs.Table.{namesRecord, companionOf, TableRead, tableRead, endOfFile, singleRead, singleOf, singleAt, arrayAt, tableOf}
+use Rattle.table_file.specs.Table.{namesRecord, companionOf, TableRead, tableRead, endOfFile, singleRead, singleOf, singleAt, arrayAt, readTable}
 use Rattle.table_file.specs.declared.FileRead.{FileRead}
-use Rattle.table_meaning.specs.Meaning.{Span, span, Gives, recordIn, Means, widthOf}
+use Rattle.table_meaning.specs.Meaning.{Span, span, Gives, recordIn, Means, recordWidth}
 use Rattle.table_meaning.specs.FaultRecord.{ofRecord, FaultIn}
 use Rattle.table_meaning.proofs.Rows.{row-order, row-before}
 use Rattle.table_meaning.proofs.Objects.{object-proper}
@@ -68,7 +68,7 @@ module _ (fields : List Field) (s : List ℕ) where
     all : length (walk .records) ≡ n
     all = omega (arith, walk .count)
 
-    each : (r : ℕ) → r < n → Gives fields s (recordIn (walk .records) r) (f .cells) (r * widthOf fields)
+    each : (r : ℕ) → r < n → Gives fields s (recordIn (walk .records) r) (f .cells) (r * recordWidth fields)
     each r l = rw zero-add at (walk .gives r (omega (arith, all)))
 
     closed-means : (last : ℕ) → walk .rest ≡ Ends last → spacesEnd s (last + 1) ≡ length s → Means false fields s (f .cells) n
@@ -173,7 +173,7 @@ module _ (fields : List Field) (s : List ℕ) where
         )
 
     -- where no object stands
-    other-kind : Elsewhere (Fault (singleOf s (filled cells (notObjectAt s at)) .read .kind) 0)
+    other-kind : Elsewhere (Fault (singleOf s (cellsFilled cells (notObjectAt s at)) .read .kind) 0)
     unfolding singleOf singleRead
     other-kind = go (notObjectAt s at) (other-elsewhere s at)
       where
@@ -182,8 +182,8 @@ module _ (fields : List Field) (s : List ℕ) where
         go (Fault kind place) h = h
 
     -- ---- the table
-    pub table-cells : (single : Bool) → tableOf single fields s cells .read .kind ≡ 0 → Means single fields s (tableOf single fields s cells .cells) (tableOf single fields s cells .read .records)
-    unfolding tableOf singleAt arrayAt singleOf
+    pub table-cells : (single : Bool) → readTable single fields s cells .read .kind ≡ 0 → Means single fields s (readTable single fields s cells .cells) (readTable single fields s cells .read .records)
+    unfolding readTable singleAt arrayAt singleOf
     table-cells true =
         by-test (λ (f : TableRead). f .read .kind ≡ 0 → Means true fields s (f .cells) (f .read .records)) (eqb (byteAt s at) 123) _ _
         (λ e. single-means _ (recordAt fields s at cells 0 .outcome) (record-kind fields s 0 cells at) (λ end w. (record-narrow fields s 0 at cells end w, record-gives fields s 0 at cells (eqb-true _ 123 e) end w)))
@@ -194,16 +194,16 @@ module _ (fields : List Field) (s : List ℕ) where
         (λ _. not-zero _ (other-kind .0))
 
     -- a singleton that holds has one record, between spaces
-    pub single-cells : tableOf true fields s cells .read .kind ≡ 0 → (tableOf true fields s cells .read .records ≡ 1) × ((to : ℕ) × (spacesEnd s to ≡ length s) × Gives fields s (span at to) (tableOf true fields s cells .cells) 0)
+    pub single-cells : readTable true fields s cells .read .kind ≡ 0 → (readTable true fields s cells .read .records ≡ 1) × ((to : ℕ) × (spacesEnd s to ≡ length s) × Gives fields s (span at to) (readTable true fields s cells .cells) 0)
     unfolding recordIn
     single-cells z =
         let t = table-cells true z in
-        let one : tableOf true fields s cells .read .records ≡ 1 = sym (t .count) ∙ ap length (t .laid .one) in
+        let one : readTable true fields s cells .read .records ≡ 1 = sym (t .count) ∙ ap length (t .laid .one) in
         (one, (t .laid .to, t .laid .ends, rw (t .laid .one, zero-mul) at (t .gives 0 (omega arith))))
 
     -- a fault that only a record can have stands in one, which its mark names but for 19
-    pub fault-record : (single : Bool) → Named single fields s (tableOf single fields s cells)
-    unfolding tableOf singleAt arrayAt singleOf
+    pub fault-record : (single : Bool) → Named single fields s (readTable single fields s cells)
+    unfolding readTable singleAt arrayAt singleOf
     fault-record true =
         by-test (Named true fields s) (eqb (byteAt s at) 123) _ _
         (λ e. single-fault _ (recordAt fields s at cells 0 .outcome) (λ kind place w. inside-is fields s at (spaces-within s 0 (omega arith) .1) (eqb-true _ 123 e) cells 0 kind place (rw zero-mul w)))
@@ -214,12 +214,12 @@ module _ (fields : List Field) (s : List ℕ) where
         (λ _. not-other _ (other-kind .1))
 
     -- the record that a mark names is the one in which its fault stands
-    pub companion-record : (single : Bool) → namesRecord (tableOf single fields s cells .read .kind) ≡ true → FaultIn single fields s (tableOf single fields s cells .cells) (tableOf single fields s cells .read .companion) (tableOf single fields s cells .read .kind) (tableOf single fields s cells .read .place)
+    pub companion-record : (single : Bool) → namesRecord (readTable single fields s cells .read .kind) ≡ true → FaultIn single fields s (readTable single fields s cells .cells) (readTable single fields s cells .read .companion) (readTable single fields s cells .read .kind) (readTable single fields s cells .read .place)
     unfolding ofRecord companionOf
     companion-record single e =
         let h = fault-record single (rw e) in
         rw (h .1, e) (h .2)
 
     -- in a singleton it is 1
-    pub companion-single : namesRecord (tableOf true fields s cells .read .kind) ≡ true → tableOf true fields s cells .read .companion ≡ 1
+    pub companion-single : namesRecord (readTable true fields s cells .read .kind) ≡ true → readTable true fields s cells .read .companion ≡ 1
     companion-single e = let h = companion-record true e in h .number ∙ ap (λ (l : List Span). length l + 1) (h .leads .0)

@@ -27,7 +27,7 @@ use Rattle.json_number.specs.declared.Integer.the-variants.{Is, Fraction, TooLa
 use Rattle.json_date.specs.Date.{dateOf}
 use Rattle.json_date.specs.declared.Date.{Date}
 use Rattle.json_date.specs.declared.Date.the-variants.{Day, NoDate}
-use Rattle.table_rows.specs.Types.{boolean, date, decimal, integer, string, text}
+use Rattle.table_rows.specs.Types.{boolean, date, decimalType, integer, string, text}
 use Rattle.table_value.specs.Value.{textHeld, dateHeld, stringIn, stringValue, decimalHeld, integerHeld, numberIn, numberValue, literalIn, literalValue, startsNumber, opens, valueAt}
 use Rattle.table_value.specs.declared.ValueRead.{ValueRead}
 use Rattle.table_value.specs.declared.ValueRead.the-variants.{Held, Null, Bad}
@@ -90,7 +90,7 @@ module _ (s : List ℕ) (at ty end : ℕ) where
       (λ _. by-test Shows (eqb ty date) _ _ (λ isDate. of-date e (eqb-true ty date isDate) whole (dateOf (charsAt s at)) refl) (λ _. bad 15 at))
   of-text quote wrong (Fault kind place) whole = bad kind place
 
-  of-decimal : (e : ℕ) → ty ≡ decimal → numberAt s at .reading ≡ Whole e → (v : Value) → numberAt s at .value ≡ v → Shows (decimalHeld at e v)
+  of-decimal : (e : ℕ) → ty ≡ decimalType → numberAt s at .reading ≡ Whole e → (v : Value) → numberAt s at .value ≡ v → Shows (decimalHeld at e v)
   unfolding decimalHeld
   of-decimal e isDecimal whole (Fits negative c p15) is = held e (λ q. ADecimal isDecimal (rw q at whole) is)
   of-decimal e isDecimal whole Beyond is = bad 18 at
@@ -104,7 +104,7 @@ module _ (s : List ℕ) (at ty end : ℕ) where
   of-number : (r : Reading) → numberAt s at .reading ≡ r → Shows (elim r [ Whole e ↦ numberIn at ty e (numberAt s at .value) | Fault kind place ↦ Bad kind place ])
   unfolding numberIn
   of-number (Whole e) whole =
-      by-test Shows (eqb ty decimal) _ _ (λ isDecimal. of-decimal e (eqb-true ty decimal isDecimal) whole (numberAt s at .value) refl)
+      by-test Shows (eqb ty decimalType) _ _ (λ isDecimal. of-decimal e (eqb-true ty decimalType isDecimal) whole (numberAt s at .value) refl)
       (λ _. by-test Shows (eqb ty integer) _ _
       (λ isInteger. of-integer e (eqb-true ty integer isInteger) whole (integerOf (numberAt s at .value)) refl) (λ _. bad 15 at))
   of-number (Fault kind place) whole = bad kind place

@@ -16,7 +16,7 @@ use Rattle.table_name.specs.declared.NameRead.the-variants.{Known}
 use Rattle.table_name.specs.declared.Next.{Next}
 use Rattle.table_name.specs.declared.Next.the-variants.{More, Ends}
 use Rattle.table_record.specs.Record.{startCell, endCell, typeOf}
-use Rattle.table_meaning.specs.Meaning.{_∈_, Span, span, Row, Member, member, spanOf, Stands, Object, Says, IsValue, IsNull, IsAbsent, Gives, recordIn, Means, widthOf}
+use Rattle.table_meaning.specs.Meaning.{_∈_, Span, span, Row, Member, member, spanOf, MemberStands, Object, Says, IsValue, IsNull, IsAbsent, Gives, recordIn, Means, recordWidth}
 
 -- ---- what leads to another part leads to no end
 more-not-ends : {A : Type 0} (next last : ℕ) → More next ≡ Ends last → A
@@ -42,7 +42,7 @@ module _ (fields : List Field) (s : List ℕ) where
   same-value v false true i j p q = let z : _≡_ {A = ℕ} 0 1 = cc in absurd (omega arith)
   same-value v false false i j p q = (refl, cc)
 
-  stands-same : (m n : Member) → Stands fields s m → Stands fields s n → m .name ≡ n .name → m ≡ n
+  stands-same : (m n : Member) → MemberStands fields s m → MemberStands fields s n → m .name ≡ n .name → m ≡ n
   stands-same m n a b e =
       let k = same-name (n .name) _ _ _ _ (rw e at (a .named)) (b .named) in
       let i : m .start ≡ n .start = same-start (b .behind) _ _ (rw (k .1) at (a .colon)) (b .colon) in
@@ -52,7 +52,7 @@ module _ (fields : List Field) (s : List ℕ) where
       alike : (a b c d : ℕ) (t : Bool) (a′ b′ c′ d′ : ℕ) (t′ : Bool) → a ≡ a′ → b ≡ b′ → c ≡ c′ → d ≡ d′ → t ≡ t′ → member a b c d t ≡ member a′ b′ c′ d′ t′
       alike a b c d t a′ b′ c′ d′ t′ p q r u v = rw (p, q, r, u, v)
 
-  members-same : (ms ns : List Member) (next : Next) (i j : ℕ) → ((m : Member) → m ∈ ms → Stands fields s m) → ((n : Member) → n ∈ ns → Stands fields s n) → Row s 125 next (map spanOf ms) (Ends i) → Row s 125 next (map spanOf ns) (Ends j) → (ms ≡ ns) × (i ≡ j)
+  members-same : (ms ns : List Member) (next : Next) (i j : ℕ) → ((m : Member) → m ∈ ms → MemberStands fields s m) → ((n : Member) → n ∈ ns → MemberStands fields s n) → Row s 125 next (map spanOf ms) (Ends i) → Row s 125 next (map spanOf ns) (Ends j) → (ms ≡ ns) × (i ≡ j)
   members-same [] [] next i j a b p q = (refl, same-ends next i j p q)
   members-same [] (n ∷ ns) next i j a b p q = more-not-ends (n .name) i (sym (q .0) ∙ p)
   members-same (m ∷ ms) [] next i j a b p q = more-not-ends (m .name) j (sym (p .0) ∙ q)
@@ -125,7 +125,7 @@ module _ (fields : List Field) (s : List ℕ) where
       records-same (a .records) (b .records) _ _ _ (objects false cells n a) (objects false others m b) (a .laid .row) (b .laid .row)
 
   -- a table's records are as many, and their cells the same, whoever says what it means
-  pub means-same : (single : Bool) (cells others : List ℕ) (n m : ℕ) → Means single fields s cells n → Means single fields s others m → (n ≡ m) × ((r k : ℕ) → r < n → k < length fields → SameCells cells (r * widthOf fields) others (r * widthOf fields) k)
+  pub means-same : (single : Bool) (cells others : List ℕ) (n m : ℕ) → Means single fields s cells n → Means single fields s others m → (n ≡ m) × ((r k : ℕ) → r < n → k < length fields → SameCells cells (r * recordWidth fields) others (r * recordWidth fields) k)
   means-same single cells others n m a b =
       let e = laid-same single cells others n m a b in
       let same : n ≡ m = omega (arith, a .count, b .count, ap length e) in

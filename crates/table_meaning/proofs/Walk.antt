@@ -21,12 +21,12 @@ use Rattle.table_value.specs.Value.{notObjectAt}
 use Rattle.table_name.specs.Name.{nextAfter}
 use Rattle.table_name.specs.declared.Next.{Next}
 use Rattle.table_name.specs.declared.Next.the-variants.{More, Ends, Neither}
-use Rattle.table_record.specs.Record.{Filled, filled, startCell, endCell, recordAt}
+use Rattle.table_record.specs.Record.{Filled, cellsFilled, startCell, endCell, recordAt}
 use Rattle.table_record.proofs.Bounds.{NextIn, next-in, record-in}
 use Rattle.table_file.specs.Table.{namesRecord, fault, TableRead, tableRead, endOfFile, elementAt, elementsFrom, elementsOf}
 use Rattle.table_file.specs.declared.FileRead.{FileRead}
 use Rattle.table_file.proofs.Laws.{element-in}
-use Rattle.table_meaning.specs.Meaning.{_∈_, Span, span, Row, Gives, recordIn, widthOf}
+use Rattle.table_meaning.specs.Meaning.{_∈_, Span, span, Row, Gives, recordIn, recordWidth}
 use Rattle.table_meaning.specs.FaultRecord.{ofRecord}
 use Rattle.table_meaning.proofs.Rows.{Proper}
 use Rattle.table_meaning.proofs.Objects.{object-proper}
@@ -51,19 +51,19 @@ module _ (fields : List Field) (s : List ℕ) where
   pub record Inside (at r kind place : ℕ) : Type 0 where
     pub brace : byteAt s at ≡ 123
     pub then : List ℕ
-    pub reads : recordAt fields s at then (r * widthOf fields) .outcome ≡ Fault kind place
+    pub reads : recordAt fields s at then (r * recordWidth fields) .outcome ≡ Fault kind place
     pub some : 10 ≤ kind
     pub placed : Placed at kind place
     pub ends : place ≤ length s
 
-  pub inside-is : (at : ℕ) → at ≤ length s → byteAt s at ≡ 123 → (then : List ℕ) (r kind place : ℕ) → recordAt fields s at then (r * widthOf fields) .outcome ≡ Fault kind place → Inside at r kind place
+  pub inside-is : (at : ℕ) → at ≤ length s → byteAt s at ≡ 123 → (then : List ℕ) (r kind place : ℕ) → recordAt fields s at then (r * recordWidth fields) .outcome ≡ Fault kind place → Inside at r kind place
   inside-is at l brace then r kind place w = record {
     brace = brace;
     then = then;
     reads = w;
-    some = record-kind fields s (r * widthOf fields) then at kind place w;
-    placed = record-placed fields s (r * widthOf fields) then at kind place w;
-    ends = rw w at (record-in fields s (r * widthOf fields) then at l .place);
+    some = record-kind fields s (r * recordWidth fields) then at kind place w;
+    placed = record-placed fields s (r * recordWidth fields) then at kind place w;
+    ends = rw w at (record-in fields s (r * recordWidth fields) then at l .place);
   }
 
   abbrev pub Failed : ℕ → ℕ → ℕ → ℕ → Type 0
@@ -74,13 +74,13 @@ module _ (fields : List Field) (s : List ℕ) where
   failed-kind at r kind place (inr h) = h .0
 
   record Element (at : ℕ) (cells : List ℕ) (r : ℕ) (f : Filled) : Type 0 where
-    gives : (end : ℕ) → f .outcome ≡ Whole end → Gives fields s (span at end) (f .cells) (r * widthOf fields)
+    gives : (end : ℕ) → f .outcome ≡ Whole end → Gives fields s (span at end) (f .cells) (r * recordWidth fields)
     small : (end : ℕ) → f .outcome ≡ Whole end → (r < 4096) × (length fields ≤ 64)
     fails : (kind place : ℕ) → f .outcome ≡ Fault kind place → Failed at r kind place
-    kept : (i : ℕ) → i < r * widthOf fields → getD (f .cells) i 0 ≡ getD cells i 0
+    kept : (i : ℕ) → i < r * recordWidth fields → getD (f .cells) i 0 ≡ getD cells i 0
 
   -- an answer that is no record's
-  elsewhere : (at : ℕ) (cells : List ℕ) (r : ℕ) (o : Reading) → Elsewhere o → Element at cells r (filled cells o)
+  elsewhere : (at : ℕ) (cells : List ℕ) (r : ℕ) (o : Reading) → Elsewhere o → Element at cells r (cellsFilled cells o)
   elsewhere at cells r (Whole end) h = absurd h
   elsewhere at cells r (Fault kind place) h = record {
     gives = λ end w. fault-not-whole kind place end w;
@@ -96,10 +96,10 @@ module _ (fields : List Field) (s : List ℕ) where
       (λ e. let brace = eqb-true (byteAt s at) 123 e in
       by-test (Element at cells r) (ltb r 4096) _ _
       (λ few. record {
-        gives = record-gives fields s (r * widthOf fields) at cells brace;
-        small = λ end w. (ltb-true r 4096 few, record-narrow fields s (r * widthOf fields) at cells end w);
+        gives = record-gives fields s (r * recordWidth fields) at cells brace;
+        small = λ end w. (ltb-true r 4096 few, record-narrow fields s (r * recordWidth fields) at cells end w);
         fails = λ kind place w. inl (inside-is at l brace cells r kind place w);
-        kept = λ i m. record-in fields s (r * widthOf fields) cells at l .kept .outside i (λ n _. omega arith);
+        kept = λ i m. record-in fields s (r * recordWidth fields) cells at l .kept .outside i (λ n _. omega arith);
       })
       (λ _. elsewhere at cells r (Fault 20 at) (omega arith, refl)))
       (λ _. elsewhere at cells r (notObjectAt s at) (other-elsewhere s at))
@@ -118,13 +118,13 @@ module _ (fields : List Field) (s : List ℕ) where
     pub rest : Next
     pub row : Row s 93 next records rest
     pub proper : (x : Span) → x ∈ records → Proper s x
-    pub gives : (i : ℕ) → i < length records → Gives fields s (recordIn records i) (f .cells) ((r + i) * widthOf fields)
+    pub gives : (i : ℕ) → i < length records → Gives fields s (recordIn records i) (f .cells) ((r + i) * recordWidth fields)
     pub small : (i : ℕ) → i < length records → (r + i < 4096) × (length fields ≤ 64)
-    pub kept : (i : ℕ) → i < r * widthOf fields → getD (f .cells) i 0 ≡ getD cells i 0
+    pub kept : (i : ℕ) → i < r * recordWidth fields → getD (f .cells) i 0 ≡ getD cells i 0
     pub stop : Stop rest n (f .read)
 
   -- no record more
-  stopped : (cells then : List ℕ) (r : ℕ) (next : Next) (read : FileRead) → ((i : ℕ) → i < r * widthOf fields → getD then i 0 ≡ getD cells i 0) → Stop next r read → Walk cells r next (tableRead then read)
+  stopped : (cells then : List ℕ) (r : ℕ) (next : Next) (read : FileRead) → ((i : ℕ) → i < r * recordWidth fields → getD then i 0 ≡ getD cells i 0) → Stop next r read → Walk cells r next (tableRead then read)
   stopped cells then r next read kept stop = record {
     records = [];
     n = r;
@@ -138,14 +138,14 @@ module _ (fields : List Field) (s : List ℕ) where
     stop = stop;
   }
 
-  next-base : (r : ℕ) → (r + 1) * widthOf fields ≡ r * widthOf fields + widthOf fields
-  next-base r = rw add-one (suc-mul r (widthOf fields))
+  next-base : (r : ℕ) → (r + 1) * recordWidth fields ≡ r * recordWidth fields + recordWidth fields
+  next-base r = rw add-one (suc-mul r (recordWidth fields))
 
   -- one record more, before the rest
   module _ (at : ℕ) (cells : List ℕ) (r : ℕ) (f : Filled) (element : Element at cells r f) (e : ℕ) (whole : f .outcome ≡ Whole e) (g : TableRead) (more : Walk (f .cells) (r + 1) (nextAfter s e 93) g) where
-    first-gives : Gives fields s (span at e) (g .cells) (r * widthOf fields)
+    first-gives : Gives fields s (span at e) (g .cells) (r * recordWidth fields)
     first-gives =
-        gives-kept fields s (span at e) (f .cells) (g .cells) (r * widthOf fields)
+        gives-kept fields s (span at e) (f .cells) (g .cells) (r * recordWidth fields)
         (λ i l m. more .kept i (omega (arith, next-base r))) (element .gives e whole)
 
     one-more : Walk cells r (More at) g
@@ -163,7 +163,7 @@ module _ (fields : List Field) (s : List ℕ) where
       stop = more .stop;
     }
       where
-        gives : (i : ℕ) → i < suc (length (more .records)) → Gives fields s (recordIn (span at e ∷ more .records) i) (g .cells) ((r + i) * widthOf fields)
+        gives : (i : ℕ) → i < suc (length (more .records)) → Gives fields s (recordIn (span at e ∷ more .records) i) (g .cells) ((r + i) * recordWidth fields)
         gives zero l = rw add-zero first-gives
         gives (suc i) l = rw (add-suc, ← suc-add, ← add-one r) (more .gives i (omega arith))
 
@@ -177,7 +177,7 @@ module _ (fields : List Field) (s : List ℕ) where
   next-walk n cells r more end (Ends last) h = stopped cells cells r (Ends last) _ (λ i l. refl) (Closes last refl (h .1) refl)
   next-walk n cells r more end (Neither place) h = stopped cells cells r (Neither place) _ (λ i l. refl) (Breaks place refl)
 
-  turn-walk : (n at : ℕ) → at ≤ length s → (cells then : List ℕ) (r : ℕ) → ((next : ℕ) → next ≤ length s → Walk then (r + 1) (More next) (elementsFrom n fields s next then (r + 1))) → (o : Reading) → Within s at o → Element at cells r (filled then o) → Walk cells r (More at) (elim o [
+  turn-walk : (n at : ℕ) → at ≤ length s → (cells then : List ℕ) (r : ℕ) → ((next : ℕ) → next ≤ length s → Walk then (r + 1) (More next) (elementsFrom n fields s next then (r + 1))) → (o : Reading) → Within s at o → Element at cells r (cellsFilled then o) → Walk cells r (More at) (elim o [
     | Whole end ↦
         elim (nextAfter s end 93) [
           | More next ↦ elementsFrom n fields s next then (r + 1)
@@ -187,7 +187,7 @@ module _ (fields : List Field) (s : List ℕ) where
     | Fault kind place ↦ tableRead then (fault kind place (r + 1))
   ])
   turn-walk n at l cells then r more (Whole e) h element =
-      one-more at cells r (filled then (Whole e)) element e refl _
+      one-more at cells r (cellsFilled then (Whole e)) element e refl _
       (next-walk n then (r + 1) more e (nextAfter s e 93) (next-in s e (h .1) 93 (omega arith)))
   turn-walk n at l cells then r more (Fault kind place) h element =
       stopped cells then r (More at) _ (element .kept) (Fails at kind place refl l (element .fails kind place refl) refl)

@@ -13,7 +13,7 @@ use Rattle.table_name.specs.Name.{firstIn}
 use Rattle.table_name.specs.declared.Next.the-variants.{More}
 use Rattle.table_record.specs.Record.{recordAt}
 use Rattle.table_file.specs.Table.{namesRecord}
-use Rattle.table_meaning.specs.Meaning.{Span, Row, Gives, recordIn, widthOf}
+use Rattle.table_meaning.specs.Meaning.{Span, Row, Gives, recordIn, recordWidth}
 
 -- the kinds that are given inside a record alone: those that name it, and 19
 unfoldable pub ofRecord : ℕ → Bool
@@ -29,12 +29,12 @@ Leads false s records at = (byteAt s (spacesEnd s 0) ≡ 91) × Row s 93 (firstI
 pub record FaultIn (single : Bool) (fields : List Field) (s cells : List ℕ) (r kind place : ℕ) : Type 0 where
   pub records : List Span
   pub number : r ≡ length records + 1
-  pub gives : (i : ℕ) → i < length records → Gives fields s (recordIn records i) cells (i * widthOf fields)
+  pub gives : (i : ℕ) → i < length records → Gives fields s (recordIn records i) cells (i * recordWidth fields)
   pub at : ℕ
   pub leads : Leads single s records at
   pub before : (i : ℕ) → i < length records → recordIn records i .to < at
   pub brace : byteAt s at ≡ 123
   pub then : List ℕ
-  pub reads : recordAt fields s at then (length records * widthOf fields) .outcome ≡ Fault kind place
+  pub reads : recordAt fields s at then (length records * recordWidth fields) .outcome ≡ Fault kind place
   pub behind : at ≤ place
   pub inside : place ≤ length s

@@ -55,7 +55,7 @@ abbrev pub spanOf : Member → Span
 spanOf m = span (m .name) (m .end)
 
 -- it stands so in the file: the name is the field's, behind it a colon, and behind that a value that belongs in the field
-pub record Stands (fields : List Field) (s : List ℕ) (m : Member) : Type 0 where
+pub record MemberStands (fields : List Field) (s : List ℕ) (m : Member) : Type 0 where
   pub behind : ℕ
   pub named : nameAt fields s (m .name) ≡ Known (m .field) behind
   pub colon : colonAt s behind ≡ Whole (m .start)
@@ -68,7 +68,7 @@ pub record Object (fields : List Field) (s : List ℕ) (x : Span) (members : Lis
   pub last : ℕ
   pub row : Row s 125 (firstIn s (x .from) 125) (map spanOf members) (Ends last)
   pub ends : x .to ≡ last + 1
-  pub stands : (m : Member) → m ∈ members → Stands fields s m
+  pub stands : (m : Member) → m ∈ members → MemberStands fields s m
 
 -- What the two cells of field k say of a record with these members: where its value stands; an end of 0 for null; 0 and 0
 -- for a field that no name of the record is.
@@ -82,8 +82,8 @@ unfoldable pub isNullable : List Field → ℕ → Bool
 isNullable fields k = getD (map (λ (f : Field). f .nullable) fields) k true
 
 -- how many cells a record has
-abbrev pub widthOf : List Field → ℕ
-widthOf fields = 2 * length fields
+abbrev pub recordWidth : List Field → ℕ
+recordWidth fields = 2 * length fields
 
 -- A record, and its cells from a base on
 pub record Gives (fields : List Field) (s : List ℕ) (x : Span) (cells : List ℕ) (base : ℕ) : Type 0 where
@@ -136,4 +136,4 @@ pub record Means (single : Bool) (fields : List Field) (s cells : List ℕ) (n :
   pub inside : (r : ℕ) → r < n → (recordIn records r .from < recordIn records r .to) × (recordIn records r .to ≤ length s)
   -- a record has 128 cells at most
   pub narrow : (r : ℕ) → r < n → length fields ≤ 64
-  pub gives : (r : ℕ) → r < n → Gives fields s (recordIn records r) cells (r * widthOf fields)
+  pub gives : (r : ℕ) → r < n → Gives fields s (recordIn records r) cells (r * recordWidth fields)

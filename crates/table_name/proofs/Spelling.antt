@@ -18,7 +18,7 @@ use Rattle.json_chars.specs.Chars.{charsAt}
 use Rattle.json_chars.specs.declared.Step.the-variants.{Char, Close}
 use Rattle.json_chars.proofs.Bounds.{step-good, Good}
 use Rattle.json_chars.proofs.Walk.{Left, Taken, take-char, take-close, opened}
-use Rattle.json_text.specs.Text.{textAt, textRead, ruleOf, wrongHere, firstOf, closesAt}
+use Rattle.json_text.specs.Text.{textAt, textRead, ruleBroken, wrongHere, firstWrong, closesAt}
 use Rattle.json_text.specs.declared.TextRead.{TextRead}
 use Rattle.json_text.specs.declared.TextType.the-variants.{Text}
 use Rattle.json_text.specs.declared.Wrong.{Wrong}
@@ -62,9 +62,9 @@ module _ (s : List ℕ) (at : ℕ) (word : List ℕ) (n i : ℕ) (w : Spelled s 
         record {
           cs = t .others;
           left = t .left;
-          wrong = firstOf (w .wrong) (wrongHere (ruleOf Text code near) i);
+          wrong = firstWrong (w .wrong) (wrongHere (ruleBroken Text code near) i);
           edge = _;
-          text = text-char Text s at (w .wrong) i (w .edge) (w .text) code next (ruleOf Text code near) near (firstOf (w .wrong) (wrongHere (ruleOf Text code near) i)) e refl refl refl;
+          text = text-char Text s at (w .wrong) i (w .edge) (w .text) code next (ruleBroken Text code near) near (firstWrong (w .wrong) (wrongHere (ruleBroken Text code near) i)) e refl refl refl;
           size = length-set word n code ∙ w .size;
           fits = omega arith;
           split = one-more word n code (charsAt s at) (w .cs) (t .others) (omega (arith, w .size)) (w .split) (t .first);

@@ -30,7 +30,7 @@ use Rattle.table_value.specs.declared.ValueRead.the-variants.{Held, Null, Bad}
 use Rattle.table_value.proofs.Bounds.{ValueIn, value-in}
 use Rattle.table_record.specs.Record.{
   Filled,
-  filled,
+  cellsFilled,
   isRead,
   stored,
   storedValue,
@@ -42,7 +42,7 @@ use Rattle.table_record.specs.Record.{
   closedAt,
   pairsFrom,
   membersOf,
-  hasRoom,
+  recordHasRoom,
   cleared,
   recordAt,
 }
@@ -148,7 +148,7 @@ pub record PartIn (fields : List Field) (s : List ℕ) (base : ℕ) (cells : Lis
   pub kept : Kept base (2 * length fields) cells (f .cells)
 
 module _ (fields : List Field) (s : List ℕ) (base : ℕ) where
-  part-fault : (cells : List ℕ) (at kind place : ℕ) → place ≤ length s → PartIn fields s base cells at (filled cells (Fault kind place))
+  part-fault : (cells : List ℕ) (at kind place : ℕ) → place ≤ length s → PartIn fields s base cells at (cellsFilled cells (Fault kind place))
   part-fault cells at kind place l = record { place = l; kept = kept-all base (2 * length fields) cells }
 
   -- a part behind another is one from where that one began
@@ -187,7 +187,7 @@ module _ (fields : List Field) (s : List ℕ) (base : ℕ) where
     unfolding pairAt
     pair-in at l = name-part at l (nameAt fields s at) (name-in fields s at l)
 
-    close-part : (at last : ℕ) → at ≤ last → last < length s → PartIn fields s base cells at (filled cells (closedAt fields cells base last))
+    close-part : (at last : ℕ) → at ≤ last → last < length s → PartIn fields s base cells at (cellsFilled cells (closedAt fields cells base last))
     unfolding closedAt
     close-part at last l m =
         record {
@@ -196,7 +196,7 @@ module _ (fields : List Field) (s : List ℕ) (base : ℕ) where
         }
 
   -- what follows a pair, by what stands behind it
-  next-part : (n : ℕ) (cells : List ℕ) (end : ℕ) → end ≤ length s → ((next : ℕ) → next ≤ length s → PartIn fields s base cells next (pairsFrom n fields s next cells base)) → (x : Next) → NextIn s end x → PartIn fields s base cells end (elim x [ More next ↦ pairsFrom n fields s next cells base | Ends last ↦ filled cells (closedAt fields cells base last) | Neither place ↦ filled cells (Fault 11 place) ])
+  next-part : (n : ℕ) (cells : List ℕ) (end : ℕ) → end ≤ length s → ((next : ℕ) → next ≤ length s → PartIn fields s base cells next (pairsFrom n fields s next cells base)) → (x : Next) → NextIn s end x → PartIn fields s base cells end (elim x [ More next ↦ pairsFrom n fields s next cells base | Ends last ↦ cellsFilled cells (closedAt fields cells base last) | Neither place ↦ cellsFilled cells (Fault 11 place) ])
   next-part n cells end l rest (More next) h =
       part-behind cells end next _ (omega (arith, h .0)) (rest next (h .1))
   next-part n cells end l rest (Ends last) h = close-part cells end last (h .0) (h .1)
@@ -206,10 +206,10 @@ module _ (fields : List Field) (s : List ℕ) (base : ℕ) where
     | Whole end ↦
         elim (nextAfter s end 125) [
           | More next ↦ pairsFrom n fields s next cells base
-          | Ends last ↦ filled cells (closedAt fields cells base last)
-          | Neither place ↦ filled cells (Fault 11 place)
+          | Ends last ↦ cellsFilled cells (closedAt fields cells base last)
+          | Neither place ↦ cellsFilled cells (Fault 11 place)
         ]
-    | Fault kind place ↦ filled cells (Fault kind place)
+    | Fault kind place ↦ cellsFilled cells (Fault kind place)
   ])
   pair-part n cells at rest (Whole end) h =
       part-behind cells at end _ (omega (arith, h .0))
@@ -236,7 +236,7 @@ module _ (fields : List Field) (s : List ℕ) (base : ℕ) where
   pub record-in : (cells : List ℕ) (at : ℕ) → at ≤ length s → PartIn fields s base cells at (recordAt fields s at cells base)
   unfolding recordAt
   record-in cells at l =
-      by-test (PartIn fields s base cells at) (hasRoom s cells base (length fields)) _ _
+      by-test (PartIn fields s base cells at) (recordHasRoom s cells base (length fields)) _ _
       (λ _. part-then cells (cleared cells base (2 * length fields)) at at _ (kept-cleared base (2 * length fields) cells (2 * length fields) (omega arith)) (omega arith)
       (members-part (cleared cells base (2 * length fields)) at l (firstIn s at 125) (first-in s at 125 (omega arith))))
       (λ _. part-fault cells at 99 at l)

@@ -6,9 +6,9 @@ use mathlib.Core.Path.{_≡_, refl}
 use mathlib.Core.List.{List, [], _∷_, map}
 use Rattle.table_record.proofs.Opens.{open-records}
 use Rattle.json_bytes.specs.declared.Reading.the-variants.{Whole, Fault}
-use Rattle.table_rows.specs.Ascii.{codes}
+use Rattle.json_bytes.specs.Ascii.{codes}
 use Rattle.table_fields.specs.Fields.{fieldsOf}
-use Rattle.table_record.specs.Record.{Filled, filled, recordAt}
+use Rattle.table_record.specs.Record.{Filled, cellsFilled, recordAt}
 
 -- the first record of a file, read into cells of which the first and the last are not its own
 abbrev cellsBefore : List ℕ
@@ -39,12 +39,12 @@ faults = refl
 
 -- the cells then: where each value starts and where it ends, 0 where a null or an empty string ends
 pub whole : firstRecord "[{\"Comments\":\"\",\"ID\": \"R1\",\"ElementOfCostID\":\"LABOR\",\"Name\":\"Fitter\"}]"
-    ≡ filled (5 ∷ 22 ∷ 26 ∷ 60 ∷ 68 ∷ 45 ∷ 52 ∷ 13 ∷ 0 ∷ 7 ∷ []) (Whole 69)
+    ≡ cellsFilled (5 ∷ 22 ∷ 26 ∷ 60 ∷ 68 ∷ 45 ∷ 52 ∷ 13 ∷ 0 ∷ 7 ∷ []) (Whole 69)
 unfolding open-records
 whole = refl
 
 -- what was read up to a fault stays, and the cells of the fields that are absent are cleared
 pub stays : firstRecord "[{\"ID\":\"R1\",\"Name\":null,\"Comments\":[]}]"
-    ≡ filled (5 ∷ 7 ∷ 11 ∷ 19 ∷ 0 ∷ 0 ∷ 0 ∷ 0 ∷ 0 ∷ 7 ∷ []) (Fault 15 35)
+    ≡ cellsFilled (5 ∷ 7 ∷ 11 ∷ 19 ∷ 0 ∷ 0 ∷ 0 ∷ 0 ∷ 0 ∷ 7 ∷ []) (Fault 15 35)
 unfolding open-records
 stays = refl

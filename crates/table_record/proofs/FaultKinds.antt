@@ -9,7 +9,7 @@ use Rattle.json_bytes.specs.Reads.{within}
 use Rattle.json_bytes.specs.declared.Reading.the-variants.{Whole, Fault}
 use Rattle.json_bytes.proofs.Laws.{either}
 use Rattle.json_bytes.proofs.FaultKinds.{wider, in-right, below, inOrder, Faults, of-reading, kindOf}
-use Rattle.table_rows.specs.Ascii.{codes}
+use Rattle.json_bytes.specs.Ascii.{codes}
 use Rattle.table_rows.specs.Types.{date, integer, string, stringID, text}
 use Rattle.table_rows.specs.Rows.{Field}
 use Rattle.table_fields.specs.Fields.{field, required, optional}
@@ -25,7 +25,7 @@ use Rattle.table_name.specs.declared.Next.the-variants.{More, Ends, Neither}
 use Rattle.table_name.proofs.FaultKinds.{nameKinds, NameFaults, name-kinds, colonKinds, colon-kinds}
 use Rattle.table_record.specs.Record.{
   Filled,
-  filled,
+  cellsFilled,
   isRead,
   typeOf,
   storedValue,
@@ -36,7 +36,7 @@ use Rattle.table_record.specs.Record.{
   closedAt,
   pairsFrom,
   membersOf,
-  hasRoom,
+  recordHasRoom,
   cleared,
   recordAt,
 }
@@ -80,7 +80,7 @@ module _ (fields : List Field) (s : List ℕ) (base : ℕ) where
   unfolding closedAt
   closed-kinds cells at = either (Faults recordKinds) (isMissing fields cells base 0) _ _ refl tt
 
-  behind-pair : (n : ℕ) (cells : List ℕ) → ((next : ℕ) → RecordFaults (pairsFrom n fields s next cells base)) → (x : Next) → RecordFaults (elim x [ More next ↦ pairsFrom n fields s next cells base | Ends last ↦ filled cells (closedAt fields cells base last) | Neither place ↦ filled cells (Fault 11 place) ])
+  behind-pair : (n : ℕ) (cells : List ℕ) → ((next : ℕ) → RecordFaults (pairsFrom n fields s next cells base)) → (x : Next) → RecordFaults (elim x [ More next ↦ pairsFrom n fields s next cells base | Ends last ↦ cellsFilled cells (closedAt fields cells base last) | Neither place ↦ cellsFilled cells (Fault 11 place) ])
   behind-pair n cells rest (More next) = rest next
   behind-pair n cells rest (Ends last) = closed-kinds cells last
   behind-pair n cells rest (Neither place) = refl
@@ -94,10 +94,10 @@ module _ (fields : List Field) (s : List ℕ) (base : ℕ) where
         | Whole end ↦
             elim (nextAfter s end 125) [
               | More next ↦ pairsFrom n fields s next (pair .cells) base
-              | Ends last ↦ filled (pair .cells) (closedAt fields (pair .cells) base last)
-              | Neither place ↦ filled (pair .cells) (Fault 11 place)
+              | Ends last ↦ cellsFilled (pair .cells) (closedAt fields (pair .cells) base last)
+              | Neither place ↦ cellsFilled (pair .cells) (Fault 11 place)
             ]
-        | Fault kind place ↦ filled (pair .cells) (Fault kind place)
+        | Fault kind place ↦ cellsFilled (pair .cells) (Fault kind place)
       ])) recordKinds (λ end. behind-pair n (pair .cells) (λ next. pairs-kinds n next (pair .cells)) (nextAfter s end 125))
       (λ kind place h. h) (pair .outcome) (pair-kinds at cells)
 
@@ -107,19 +107,19 @@ module _ (fields : List Field) (s : List ℕ) (base : ℕ) where
   members-kinds cells (Ends at) = closed-kinds cells at
   members-kinds cells (Neither at) = refl
 
-  pub record-kinds : (at : ℕ) (cells : List ℕ) → hasRoom s cells base (length fields) ≡ true → RecordFaults (recordAt fields s at cells base)
+  pub record-kinds : (at : ℕ) (cells : List ℕ) → recordHasRoom s cells base (length fields) ≡ true → RecordFaults (recordAt fields s at cells base)
   record-kinds at cells e =
       rw (record-room fields s at cells base e) (members-kinds (cleared cells base (2 * length fields)) (firstIn s at 125))
 
   -- 99 says that there is no room, and nothing else does
-  pub no-room-99 : (at : ℕ) (cells : List ℕ) → hasRoom s cells base (length fields) ≡ false → recordAt fields s at cells base .outcome ≡ Fault 99 at
+  pub no-room-99 : (at : ℕ) (cells : List ℕ) → recordHasRoom s cells base (length fields) ≡ false → recordAt fields s at cells base .outcome ≡ Fault 99 at
   no-room-99 at cells e = ap (λ (f : Filled). f .outcome) (record-full fields s at cells base e)
 
-  pub record-99 : (at place : ℕ) (cells : List ℕ) → recordAt fields s at cells base .outcome ≡ Fault 99 place → hasRoom s cells base (length fields) ≡ false
+  pub record-99 : (at place : ℕ) (cells : List ℕ) → recordAt fields s at cells base .outcome ≡ Fault 99 place → recordHasRoom s cells base (length fields) ≡ false
   unfolding below flatMap within textType
-  record-99 at place cells e = go (hasRoom s cells base (length fields)) refl
+  record-99 at place cells e = go (recordHasRoom s cells base (length fields)) refl
     where
-      go : (t : Bool) → hasRoom s cells base (length fields) ≡ t → t ≡ false
+      go : (t : Bool) → recordHasRoom s cells base (length fields) ≡ t → t ≡ false
       go true room = absurd (false≢true (rw e at (record-kinds at cells room)))
       go false room = refl
 

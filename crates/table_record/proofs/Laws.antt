@@ -29,7 +29,7 @@ use Rattle.table_value.proofs.Bounds.{ValueIn, value-in}
 use Rattle.table_record.proofs.Bounds.{NameIn, NextIn, name-in, colon-in, next-in, first-in, pair-in}
 use Rattle.table_record.specs.Record.{
   Filled,
-  filled,
+  cellsFilled,
   startCell,
   isRead,
   stored,
@@ -44,7 +44,7 @@ use Rattle.table_record.specs.Record.{
   closedAt,
   pairsFrom,
   membersOf,
-  hasRoom,
+  recordHasRoom,
   recordAt,
 }
 
@@ -81,24 +81,24 @@ module _ (rows names : List ℕ) (count k : ℕ) where
 
 -- ---- room for a record
 module _ (s cells : List ℕ) (base count : ℕ) where
-  pub room-is : length s < 2 ^ 32 → count ≤ 64 → base + 2 * count ≤ length cells → hasRoom s cells base count ≡ true
-  unfolding hasRoom
+  pub room-is : length s < 2 ^ 32 → count ≤ 64 → base + 2 * count ≤ length cells → recordHasRoom s cells base count ≡ true
+  unfolding recordHasRoom
   room-is a b c = rw (lt-ltb (length s) (2 ^ 32) a, le-leb count 64 b, le-leb (base + 2 * count) (length cells) c)
 
-  pub room-long : 2 ^ 32 ≤ length s → hasRoom s cells base count ≡ false
-  unfolding hasRoom
+  pub room-long : 2 ^ 32 ≤ length s → recordHasRoom s cells base count ≡ false
+  unfolding recordHasRoom
   room-long a = rw (le-ltb (length s) (2 ^ 32) a)
 
-  pub room-many : length s < 2 ^ 32 → 64 < count → hasRoom s cells base count ≡ false
-  unfolding hasRoom
+  pub room-many : length s < 2 ^ 32 → 64 < count → recordHasRoom s cells base count ≡ false
+  unfolding recordHasRoom
   room-many a b = rw (lt-ltb (length s) (2 ^ 32) a, lt-leb count 64 b)
 
-  pub room-short : length s < 2 ^ 32 → count ≤ 64 → length cells < base + 2 * count → hasRoom s cells base count ≡ false
-  unfolding hasRoom
+  pub room-short : length s < 2 ^ 32 → count ≤ 64 → length cells < base + 2 * count → recordHasRoom s cells base count ≡ false
+  unfolding recordHasRoom
   room-short a b c = rw (lt-ltb (length s) (2 ^ 32) a, le-leb count 64 b, lt-leb (base + 2 * count) (length cells) c)
 
-  pub room-all : hasRoom s cells base count ≡ true → (length s < 2 ^ 32) × ((count ≤ 64) × (base + 2 * count ≤ length cells))
-  unfolding hasRoom
+  pub room-all : recordHasRoom s cells base count ≡ true → (length s < 2 ^ 32) × ((count ≤ 64) × (base + 2 * count ≤ length cells))
+  unfolding recordHasRoom
   room-all e =
       let h = both-right (ltb (length s) (2 ^ 32)) _ e in (
         ltb-true (length s) (2 ^ 32) (both-left (ltb (length s) (2 ^ 32)) _ e),
@@ -111,15 +111,15 @@ module _ (s : List ℕ) (start ty : ℕ) (v : ValueRead) (isValue : v ≡ valueA
   value-told l = rw isValue (value-in s start l ty)
 
   module _ (cells : List ℕ) (base k : ℕ) where
-    pub value-held : (end : ℕ) (then : List ℕ) → v ≡ Held end → then ≡ stored cells base k start end → filled then (Whole end) ≡ storedValue cells base k start (valueAt s start ty)
+    pub value-held : (end : ℕ) (then : List ℕ) → v ≡ Held end → then ≡ stored cells base k start end → cellsFilled then (Whole end) ≡ storedValue cells base k start (valueAt s start ty)
     unfolding storedValue
     value-held end then e isStored = rw (← isValue, e, isStored)
 
-    pub value-null : (end : ℕ) (then : List ℕ) → v ≡ Null end → then ≡ stored cells base k start 0 → filled then (Whole end) ≡ storedValue cells base k start (valueAt s start ty)
+    pub value-null : (end : ℕ) (then : List ℕ) → v ≡ Null end → then ≡ stored cells base k start 0 → cellsFilled then (Whole end) ≡ storedValue cells base k start (valueAt s start ty)
     unfolding storedValue
     value-null end then e isStored = rw (← isValue, e, isStored)
 
-    pub value-bad : (kind place : ℕ) → v ≡ Bad kind place → filled cells (Fault kind place) ≡ storedValue cells base k start (valueAt s start ty)
+    pub value-bad : (kind place : ℕ) → v ≡ Bad kind place → cellsFilled cells (Fault kind place) ≡ storedValue cells base k start (valueAt s start ty)
     unfolding storedValue
     value-bad kind place e = rw (← isValue, e)
 
@@ -132,17 +132,17 @@ module _ (fields : List Field) (s : List ℕ) (at : ℕ) (n : NameRead) (isName 
   name-told l = rw isName (name-in fields s at l)
 
   module _ (cells : List ℕ) (base : ℕ) where
-    pub pair-unknown : (kind place : ℕ) → n ≡ Unknown kind place → filled cells (Fault kind place) ≡ pairAt fields s at cells base
+    pub pair-unknown : (kind place : ℕ) → n ≡ Unknown kind place → cellsFilled cells (Fault kind place) ≡ pairAt fields s at cells base
     unfolding pairAt afterName
     pair-unknown kind place e = rw (← isName, e)
 
     module _ (k end : ℕ) (known : n ≡ Known k end) where
-      pub pair-twice : 0 < startCell cells base k → filled cells (Fault 14 at) ≡ pairAt fields s at cells base
+      pub pair-twice : 0 < startCell cells base k → cellsFilled cells (Fault 14 at) ≡ pairAt fields s at cells base
       unfolding pairAt afterName isRead
       pair-twice l = rw (← isName, known, lt-ltb 0 (startCell cells base k) l)
 
       module _ (fresh : startCell cells base k ≤ 0) (r : Reading) (isColon : r ≡ colonAt s end) where
-        pub pair-colon : (kind place : ℕ) → r ≡ Fault kind place → filled cells (Fault kind place) ≡ pairAt fields s at cells base
+        pub pair-colon : (kind place : ℕ) → r ≡ Fault kind place → cellsFilled cells (Fault kind place) ≡ pairAt fields s at cells base
         unfolding pairAt afterName isRead afterColon
         pair-colon kind place e = rw (← isName, known, le-ltb 0 (startCell cells base k) fresh, ← isColon, e)
 
@@ -171,14 +171,14 @@ pub record Left (fields : List Field) (s : List ℕ) (base : ℕ) (whole : Fille
 pub left-all : (fields : List Field) (s : List ℕ) (base : ℕ) (cells : List ℕ) (at : ℕ) → 0 < at → at ≤ length s → Left fields s base (pairsFrom (length s) fields s at cells base) cells at
 left-all fields s base cells at p l = record { fuel = length s; inside = l; enough = omega arith; reads = refl }
 
-module _ (fields : List Field) (s : List ℕ) (base : ℕ) (whole : Filled) (cells : List ℕ) (at : ℕ) (then : List ℕ) (r : Reading) (isPair : filled then r ≡ pairAt fields s at cells base) where
+module _ (fields : List Field) (s : List ℕ) (base : ℕ) (whole : Filled) (cells : List ℕ) (at : ℕ) (then : List ℕ) (r : Reading) (isPair : cellsFilled then r ≡ pairAt fields s at cells base) where
   outcome-told : pairAt fields s at cells base .outcome ≡ r
   outcome-told = sym (ap (λ (f : Filled). f .outcome) isPair)
 
   cells-told : pairAt fields s at cells base .cells ≡ then
   cells-told = sym (ap (λ (f : Filled). f .cells) isPair)
 
-  fault-by : (f : ℕ) → length s < at + f → at ≤ length s → pairsFrom f fields s at cells base ≡ whole → (kind place : ℕ) → r ≡ Fault kind place → filled then (Fault kind place) ≡ whole
+  fault-by : (f : ℕ) → length s < at + f → at ≤ length s → pairsFrom f fields s at cells base ≡ whole → (kind place : ℕ) → r ≡ Fault kind place → cellsFilled then (Fault kind place) ≡ whole
   unfolding pairsFrom
   fault-by zero m l q kind place e = absurd (omega arith)
   fault-by (suc g) m l q kind place e = rw (outcome-told ∙ e, pairsFrom, cells-told) at q
@@ -195,13 +195,13 @@ module _ (fields : List Field) (s : List ℕ) (base : ℕ) (whole : Filled) (cel
           reads = rw (outcome-told ∙ isWhole, pairsFrom, sym isNext ∙ e, pairsFrom, cells-told) at q;
         }
 
-    ends-by : (f : ℕ) → length s < at + f → at ≤ length s → pairsFrom f fields s at cells base ≡ whole → (last : ℕ) (t : Reading) → x ≡ Ends last → t ≡ closedAt fields then base last → filled then t ≡ whole
+    ends-by : (f : ℕ) → length s < at + f → at ≤ length s → pairsFrom f fields s at cells base ≡ whole → (last : ℕ) (t : Reading) → x ≡ Ends last → t ≡ closedAt fields then base last → cellsFilled then t ≡ whole
     unfolding pairsFrom
     ends-by zero m l q last t e isClosed = absurd (omega arith)
     ends-by (suc g) m l q last t e isClosed =
         rw isClosed (rw (outcome-told ∙ isWhole, pairsFrom, sym isNext ∙ e, pairsFrom, cells-told) at q)
 
-    neither-by : (f : ℕ) → length s < at + f → at ≤ length s → pairsFrom f fields s at cells base ≡ whole → (place : ℕ) → x ≡ Neither place → filled then (Fault 11 place) ≡ whole
+    neither-by : (f : ℕ) → length s < at + f → at ≤ length s → pairsFrom f fields s at cells base ≡ whole → (place : ℕ) → x ≡ Neither place → cellsFilled then (Fault 11 place) ≡ whole
     unfolding pairsFrom
     neither-by zero m l q place e = absurd (omega arith)
     neither-by (suc g) m l q place e =
@@ -211,7 +211,7 @@ module _ (fields : List Field) (s : List ℕ) (base : ℕ) (whole : Filled) (cel
     pair-place : Within s at r
     pair-place = rw (ap (λ (f : Filled). f .outcome) isPair) (pair-in fields s base cells at (left .inside) .place)
 
-    pub turn-fault : (kind place : ℕ) → r ≡ Fault kind place → filled then (Fault kind place) ≡ whole
+    pub turn-fault : (kind place : ℕ) → r ≡ Fault kind place → cellsFilled then (Fault kind place) ≡ whole
     turn-fault = fault-by (left .fuel) (left .enough) (left .inside) (left .reads)
 
     module _ (end : ℕ) (isWhole : r ≡ Whole end) (x : Next) (isNext : x ≡ nextAfter s end 125) where
@@ -235,10 +235,10 @@ module _ (fields : List Field) (s : List ℕ) (base : ℕ) (whole : Filled) (cel
       turn-more next e =
           more-by end isWhole x isNext (left .fuel) (left .enough) (left .inside) (left .reads) next (more-place next e .0) (more-place next e .1) e
 
-      pub turn-ends : (last : ℕ) (t : Reading) → x ≡ Ends last → t ≡ closedAt fields then base last → filled then t ≡ whole
+      pub turn-ends : (last : ℕ) (t : Reading) → x ≡ Ends last → t ≡ closedAt fields then base last → cellsFilled then t ≡ whole
       turn-ends = ends-by end isWhole x isNext (left .fuel) (left .enough) (left .inside) (left .reads)
 
-      pub turn-neither : (place : ℕ) → x ≡ Neither place → filled then (Fault 11 place) ≡ whole
+      pub turn-neither : (place : ℕ) → x ≡ Neither place → cellsFilled then (Fault 11 place) ≡ whole
       turn-neither = neither-by end isWhole x isNext (left .fuel) (left .enough) (left .inside) (left .reads)
 
 -- ---- a record
@@ -255,22 +255,22 @@ module _ (s : List ℕ) (at : ℕ) (x : Next) (isFirst : x ≡ firstIn s at 125)
       h .1
 
 module _ (fields : List Field) (s : List ℕ) (at : ℕ) (cells : List ℕ) (base : ℕ) where
-  pub record-room : hasRoom s cells base (length fields) ≡ true → recordAt fields s at cells base ≡ membersOf fields s (cleared cells base (2 * length fields)) base (firstIn s at 125)
+  pub record-room : recordHasRoom s cells base (length fields) ≡ true → recordAt fields s at cells base ≡ membersOf fields s (cleared cells base (2 * length fields)) base (firstIn s at 125)
   unfolding recordAt
   record-room e = rw e
 
-  pub record-full : hasRoom s cells base (length fields) ≡ false → recordAt fields s at cells base ≡ filled cells (Fault 99 at)
+  pub record-full : recordHasRoom s cells base (length fields) ≡ false → recordAt fields s at cells base ≡ cellsFilled cells (Fault 99 at)
   unfolding recordAt
   record-full e = rw e
 
-module _ (rows names : List ℕ) (count : ℕ) (s : List ℕ) (at : ℕ) (cells : List ℕ) (base : ℕ) (t : Bool) (isRoom : t ≡ hasRoom s cells base count) where
+module _ (rows names : List ℕ) (count : ℕ) (s : List ℕ) (at : ℕ) (cells : List ℕ) (base : ℕ) (t : Bool) (isRoom : t ≡ recordHasRoom s cells base count) where
   abbrev fields : List Field
   fields = fieldsFrom rows names count 0
 
-  room-told : hasRoom s cells base (length fields) ≡ t
+  room-told : recordHasRoom s cells base (length fields) ≡ t
   room-told = rw (fields-length rows names count 0) (sym isRoom)
 
-  pub record-none : t ≡ false → filled cells (Fault 99 at) ≡ recordAt fields s at cells base
+  pub record-none : t ≡ false → cellsFilled cells (Fault 99 at) ≡ recordAt fields s at cells base
   record-none e = sym (record-full fields s at cells base (room-told ∙ e))
 
   module _ (room : t ≡ true) (then : List ℕ) (isCleared : then ≡ cleared cells base (2 * count)) (x : Next) (isFirst : x ≡ firstIn s at 125) where
@@ -282,10 +282,10 @@ module _ (rows names : List ℕ) (count : ℕ) (s : List ℕ) (at : ℕ) (cells 
     unfolding membersOf
     record-more next f e isRest = rw (record-whole, e) isRest
 
-    pub record-ends : (last : ℕ) (r : Reading) → x ≡ Ends last → r ≡ closedAt fields then base last → filled then r ≡ recordAt fields s at cells base
+    pub record-ends : (last : ℕ) (r : Reading) → x ≡ Ends last → r ≡ closedAt fields then base last → cellsFilled then r ≡ recordAt fields s at cells base
     unfolding membersOf
     record-ends last r e isClosed = rw (record-whole, e, isClosed)
 
-    pub record-neither : (place : ℕ) → x ≡ Neither place → filled then (Fault 11 place) ≡ recordAt fields s at cells base
+    pub record-neither : (place : ℕ) → x ≡ Neither place → cellsFilled then (Fault 11 place) ≡ recordAt fields s at cells base
     unfolding membersOf
     record-neither place e = rw (record-whole, e)

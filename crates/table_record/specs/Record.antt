@@ -38,8 +38,8 @@ pub record Filled : Type 0 where
   pub cells : List ℕ
   pub outcome : Reading
 
-abbrev pub filled : List ℕ → Reading → Filled
-filled cells outcome = record { cells = cells; outcome = outcome }
+abbrev pub cellsFilled : List ℕ → Reading → Filled
+cellsFilled cells outcome = record { cells = cells; outcome = outcome }
 
 -- ---- A name and its value
 unfoldable pub typeOf : List Field → ℕ → ℕ
@@ -47,13 +47,13 @@ typeOf fields k = getD (map (λ (f : Field). f .type) fields) k 0
 
 -- the value that begins at a place, in field k
 unfoldable pub storedValue : List ℕ → ℕ → ℕ → ℕ → ValueRead → Filled
-storedValue cells base k start (Held end) = filled (stored cells base k start end) (Whole end)
-storedValue cells base k start (Null end) = filled (stored cells base k start 0) (Whole end)
-storedValue cells base k start (Bad kind place) = filled cells (Fault kind place)
+storedValue cells base k start (Held end) = cellsFilled (stored cells base k start end) (Whole end)
+storedValue cells base k start (Null end) = cellsFilled (stored cells base k start 0) (Whole end)
+storedValue cells base k start (Bad kind place) = cellsFilled cells (Fault kind place)
 
 unfoldable pub afterColon : List Field → List ℕ → List ℕ → ℕ → ℕ → Reading → Filled
 afterColon fields s cells base k (Whole start) = storedValue cells base k start (valueAt s start (typeOf fields k))
-afterColon fields s cells base k (Fault kind place) = filled cells (Fault kind place)
+afterColon fields s cells base k (Fault kind place) = cellsFilled cells (Fault kind place)
 
 -- whether field k has been read: a value starts behind a brace at least, so that a start of 0 says that it has not
 unfoldable pub isRead : List ℕ → ℕ → ℕ → Bool
@@ -62,8 +62,8 @@ isRead cells base k = ltb 0 (startCell cells base k)
 -- 14: "name a second time in the record; its opening quote"
 unfoldable pub afterName : List Field → List ℕ → ℕ → List ℕ → ℕ → NameRead → Filled
 afterName fields s at cells base (Known k end) =
-    cond (isRead cells base k) (filled cells (Fault 14 at)) (afterColon fields s cells base k (colonAt s end))
-afterName fields s at cells base (Unknown kind place) = filled cells (Fault kind place)
+    cond (isRead cells base k) (cellsFilled cells (Fault 14 at)) (afterColon fields s cells base k (colonAt s end))
+afterName fields s at cells base (Unknown kind place) = cellsFilled cells (Fault kind place)
 
 unfoldable pub pairAt : List Field → List ℕ → ℕ → List ℕ → ℕ → Filled
 pairAt fields s at cells base = afterName fields s at cells base (nameAt fields s at)
@@ -83,31 +83,31 @@ closedAt fields cells base at = cond (isMissing fields cells base 0) (Fault 19 a
 
 -- ---- The names and values one behind the other, the next at a place; each takes a byte at least
 unfoldable pub pairsFrom : ℕ → List Field → List ℕ → ℕ → List ℕ → ℕ → Filled
-pairsFrom zero fields s at cells base = filled cells (Fault 11 at)
+pairsFrom zero fields s at cells base = cellsFilled cells (Fault 11 at)
 pairsFrom (suc n) fields s at cells base =
     let pair = pairAt fields s at cells base in
     elim (pair .outcome) [
       | Whole end ↦
           elim (nextAfter s end 125) [
             | More next ↦ pairsFrom n fields s next (pair .cells) base
-            | Ends last ↦ filled (pair .cells) (closedAt fields (pair .cells) base last)
-            | Neither place ↦ filled (pair .cells) (Fault 11 place)
+            | Ends last ↦ cellsFilled (pair .cells) (closedAt fields (pair .cells) base last)
+            | Neither place ↦ cellsFilled (pair .cells) (Fault 11 place)
           ]
-      | Fault kind place ↦ filled (pair .cells) (Fault kind place)
+      | Fault kind place ↦ cellsFilled (pair .cells) (Fault kind place)
     ]
 
 unfoldable pub membersOf : List Field → List ℕ → List ℕ → ℕ → Next → Filled
 membersOf fields s cells base (More at) = pairsFrom (length s) fields s at cells base
-membersOf fields s cells base (Ends at) = filled cells (closedAt fields cells base at)
-membersOf fields s cells base (Neither at) = filled cells (Fault 11 at)
+membersOf fields s cells base (Ends at) = cellsFilled cells (closedAt fields cells base at)
+membersOf fields s cells base (Neither at) = cellsFilled cells (Fault 11 at)
 
 -- ---- The record whose opening brace stands at a place. Where its cells do not fit into the lent ones, or a place of the
 -- file not into a cell, nothing is read: 99, which no mark of a set is.
-unfoldable pub hasRoom : List ℕ → List ℕ → ℕ → ℕ → Bool
-hasRoom s cells base count = ltb (length s) (2 ^ 32) && (leb count 64 && leb (base + 2 * count) (length cells))
+unfoldable pub recordHasRoom : List ℕ → List ℕ → ℕ → ℕ → Bool
+recordHasRoom s cells base count = ltb (length s) (2 ^ 32) && (leb count 64 && leb (base + 2 * count) (length cells))
 
 unfoldable pub recordAt : List Field → List ℕ → ℕ → List ℕ → ℕ → Filled
 recordAt fields s at cells base =
-    cond (hasRoom s cells base (length fields))
+    cond (recordHasRoom s cells base (length fields))
     (membersOf fields s (cleared cells base (2 * length fields)) base (firstIn s at 125))
-    (filled cells (Fault 99 at))
+    (cellsFilled cells (Fault 99 at))

@@ -5,7 +5,7 @@ ghost use Prim.Native.Nat.{_+_, _*_, _^_, _≤_, _<_};
 ghost use lib.ListN.{length};
 ghost use Rattle.table_rows.specs.Rows.{fieldsFrom, nullableAt};
 ghost use Rattle.table_value.specs.Value.{valueAt};
-ghost use Rattle.table_record.specs.Record.{filled, stored, cleared, storedValue, pairAt, pairsFrom, lacks, isMissing, closedAt, hasRoom, recordAt};
+ghost use Rattle.table_record.specs.Record.{cellsFilled, stored, cleared, storedValue, pairAt, pairsFrom, lacks, isMissing, closedAt, recordHasRoom, recordAt};
 use json_bytes::Reading;
 use table_name::NameRead;
 use table_name::Next;
@@ -31,7 +31,7 @@ fn store(cells: &mut [u32], base: usize, k: usize, start: usize, end: usize)
 // The value that begins at start, in field k of type ty.
 fn store_value(s: &[u8], start: usize, ty: u32, cells: &mut [u32], base: usize, k: usize) -> Reading
     requires { ⌜ (length (now s) < 2 ^ 32) × ((start ≤ length (now s)) × (base + 2 * k + 1 < length (now cells))) ⌝ }
-    ensures { λ r. ⌜ filled (now (cells .exit)) r ≡ storedValue (now (cells .entry)) base k start (valueAt (now (s .entry)) start ty) ⌝ }
+    ensures { λ r. ⌜ cellsFilled (now (cells .exit)) r ≡ storedValue (now (cells .entry)) base k start (valueAt (now (s .entry)) start ty) ⌝ }
 {
     match value_at(s, start, ty) {
         ValueRead::Held { end } => {
@@ -57,7 +57,7 @@ fn pair_at(
     base: usize,
 ) -> Reading
     requires { ⌜ (length (now s) < 2 ^ 32) × ((at ≤ length (now s)) × (base + 2 * count ≤ length (now cells))) ⌝ }
-    ensures { λ r. ⌜ filled (now (cells .exit)) r ≡ pairAt (fieldsFrom (now (rows .entry)) (now (names .entry)) count 0) (now (s .entry)) at (now (cells .entry)) base ⌝ }
+    ensures { λ r. ⌜ cellsFilled (now (cells .exit)) r ≡ pairAt (fieldsFrom (now (rows .entry)) (now (names .entry)) count 0) (now (s .entry)) at (now (cells .entry)) base ⌝ }
 {
     match name_at(s, at, rows, names, count) {
         NameRead::Known { index, end } => {
@@ -136,7 +136,7 @@ fn read_pairs(
     base: usize,
 ) -> Reading
     requires { ⌜ (length (now s) < 2 ^ 32) × (((0 < from) × (from ≤ length (now s))) × (base + 2 * count ≤ length (now cells))) ⌝ }
-    ensures { λ r. ⌜ filled (now (cells .exit)) r ≡ pairsFrom (length (now (s .entry))) (fieldsFrom (now (rows .entry)) (now (names .entry)) count 0) (now (s .entry)) from (now (cells .entry)) base ⌝ }
+    ensures { λ r. ⌜ cellsFilled (now (cells .exit)) r ≡ pairsFrom (length (now (s .entry))) (fieldsFrom (now (rows .entry)) (now (names .entry)) count 0) (now (s .entry)) from (now (cells .entry)) base ⌝ }
 {
     let mut at = from;
     loop {
@@ -173,7 +173,7 @@ fn clear(cells: &mut [u32], base: usize, n: usize)
 
 // Whether the record's cells fit into the lent ones, and the file's places into a cell.
 fn has_room(s: &[u8], cells: &[u32], base: usize, count: usize) -> bool
-    ensures { λ r. ⌜ r ≡ hasRoom (now (s .entry)) (now (cells .entry)) base count ⌝ }
+    ensures { λ r. ⌜ r ≡ recordHasRoom (now (s .entry)) (now (cells .entry)) base count ⌝ }
 {
     if 4_294_967_295 < s.len() {
         return false;

@@ -14,7 +14,7 @@ use Rattle.json_bytes.specs.Reads.{leading}
 use Rattle.json_bytes.proofs.Laws.{both-left, both-right, run-more, run-stops, run-ends}
 use Rattle.json_same.specs.Same.{sameList}
 use Rattle.json_same.proofs.Laws.{equal-same}
-use Rattle.table_rows.specs.Rows.{listed, countBefore, cellAt, Field, tableAt, nameAt, fieldAt, fieldsFrom, rowsAfter, tablesIn, firstField, fieldCount, fieldsIn, valueTextAt, valuesFrom}
+use Rattle.table_rows.specs.Rows.{listed, countBefore, cellAt, Field, tableAt, fieldNameAt, fieldAt, fieldsFrom, rowsAfter, tablesIn, firstField, fieldCount, fieldsIn, valueTextAt, valuesFrom}
 
 -- ---- entries by their numbers
 module _ {A : Type 0} (at : ℕ → A) where
@@ -176,7 +176,7 @@ module _ (rows names : List ℕ) (f : ℕ) where
   cell-later i k = getD-drop (f * 5) rows (i * 5 + k) 0 ∙ ap (λ n. getD rows n 0) (omega arith)
 
   field-later : (i : ℕ) → fieldAt (rowsAfter rows f) names i ≡ fieldAt rows names (f + i)
-  unfolding fieldAt nameAt
+  unfolding fieldAt fieldNameAt
   field-later i = rw (cell-later i 1, cell-later i 2, cell-later i 3, cell-later i 4)
 
   pub fields-later : (n : ℕ) → fieldsFrom (rowsAfter rows f) names n 0 ≡ fieldsFrom rows names n f

@@ -4,10 +4,10 @@ use mathlib.Core.Bool.{Bool, true}
 use Rattle.json_bytes.proofs.Opens.{open-bytes}
 use Rattle.parts.proofs.Opens.{open-parts}
 use Rattle.json_same.proofs.Opens.{open-same}
-use Rattle.table_rows.specs.Ascii.{codes}
-use Rattle.table_rows.specs.Rows.{listed, countBefore, cellAt, nameAt, fieldAt, fieldsFrom, tablesIn, firstField, fieldCount, fieldsIn, valueTextAt, valuesFrom}
+use Rattle.json_bytes.specs.Ascii.{codes}
+use Rattle.table_rows.specs.Rows.{listed, countBefore, cellAt, fieldNameAt, fieldAt, fieldsFrom, tablesIn, firstField, fieldCount, fieldsIn, valueTextAt, valuesFrom}
 use Rattle.table_rows.specs.Run.{counts}
 
 unfoldable pub open-table-rows : Bool
-unfolding open-bytes open-parts open-same codes listed countBefore cellAt nameAt fieldAt fieldsFrom tablesIn firstField fieldCount fieldsIn valueTextAt valuesFrom counts
+unfolding open-bytes open-parts open-same codes listed countBefore cellAt fieldNameAt fieldAt fieldsFrom tablesIn firstField fieldCount fieldsIn valueTextAt valuesFrom counts
 open-table-rows = true

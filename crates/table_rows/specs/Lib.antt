@@ -1,4 +1,3 @@
-pub mod Ascii
 pub mod Types
 pub mod Rows
 pub mod Run

@@ -43,11 +43,11 @@ nameStart rows f = cellAt rows 5 f 3
 abbrev pub nameEnd : List ℕ → ℕ → ℕ
 nameEnd rows f = cellAt rows 5 f 4
 
-unfoldable pub nameAt : List ℕ → List ℕ → ℕ → List ℕ
-nameAt rows names f = partOf names (nameStart rows f) (nameEnd rows f)
+unfoldable pub fieldNameAt : List ℕ → List ℕ → ℕ → List ℕ
+fieldNameAt rows names f = partOf names (nameStart rows f) (nameEnd rows f)
 
 unfoldable pub fieldAt : List ℕ → List ℕ → ℕ → Field
-fieldAt rows names f = record { name = nameAt rows names f; type = typeAt rows f; nullable = nullableAt rows f }
+fieldAt rows names f = record { name = fieldNameAt rows names f; type = typeAt rows f; nullable = nullableAt rows f }
 
 -- n fields from number f on
 unfoldable pub fieldsFrom : List ℕ → List ℕ → ℕ → ℕ → List Field
@@ -74,14 +74,14 @@ unfoldable pub fieldsIn : List ℕ → List ℕ → ℕ → List Field
 fieldsIn rows names k = fieldsFrom rows names (fieldCount rows k) (firstField rows k)
 
 -- ---- A value is a row of two numbers: where its text starts among the texts and where it ends
-abbrev pub valueStart : List ℕ → ℕ → ℕ
-valueStart places v = cellAt places 2 v 0
+abbrev pub valueNameStart : List ℕ → ℕ → ℕ
+valueNameStart places v = cellAt places 2 v 0
 
 abbrev pub valueEnd : List ℕ → ℕ → ℕ
 valueEnd places v = cellAt places 2 v 1
 
 unfoldable pub valueTextAt : List ℕ → List ℕ → ℕ → List ℕ
-valueTextAt places texts v = partOf texts (valueStart places v) (valueEnd places v)
+valueTextAt places texts v = partOf texts (valueNameStart places v) (valueEnd places v)
 
 -- n values from number v on
 unfoldable pub valuesFrom : List ℕ → List ℕ → ℕ → ℕ → List (List ℕ)

@@ -7,8 +7,8 @@ boolean = 0
 abbrev pub date : ℕ
 date = 1
 
-abbrev pub decimal : ℕ
-decimal = 2
+abbrev pub decimalType : ℕ
+decimalType = 2
 
 abbrev pub integer : ℕ
 integer = 3

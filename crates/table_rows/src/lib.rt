@@ -3,7 +3,7 @@
 ghost use mathlib.Core.Path.{_≡_};
 ghost use lib.ListN.{drop};
 ghost use Rattle.json_bytes.specs.Reads.{leading};
-ghost use Rattle.table_rows.specs.Rows.{cellAt, typeAt, nullableAt, nameStart, nameEnd, rowsAfter, tablesIn, firstField, fieldCount, valueStart, valueEnd};
+ghost use Rattle.table_rows.specs.Rows.{cellAt, typeAt, nullableAt, nameStart, nameEnd, rowsAfter, tablesIn, firstField, fieldCount, valueNameStart, valueEnd};
 ghost use Rattle.table_rows.specs.Run.{counts};
 
 // The primitive data types, by the numbers that rows hold.
@@ -70,7 +70,7 @@ pub fn name_end(rows: &[u32], f: usize) -> usize
 
 // A value stands in the texts from its start up to its end.
 pub fn value_start(places: &[u32], v: usize) -> usize
-    ensures { λ r. ⌜ r ≡ valueStart (now (places .entry)) v ⌝ }
+    ensures { λ r. ⌜ r ≡ valueNameStart (now (places .entry)) v ⌝ }
 {
     cell_at(places, 2, v, 0) as usize
 }

@@ -23,7 +23,7 @@ use Rattle.json_number.specs.declared.Integer.the-variants.{Is, Fraction, TooLa
 use Rattle.json_date.specs.Date.{dateOf}
 use Rattle.json_date.specs.declared.Date.{Date}
 use Rattle.json_date.specs.declared.Date.the-variants.{Day, NoDate}
-use Rattle.table_rows.specs.Types.{boolean, date, decimal, integer, string, stringID, text}
+use Rattle.table_rows.specs.Types.{boolean, date, decimalType, integer, string, stringID, text}
 use Rattle.table_value.specs.declared.ValueRead.{ValueRead}
 use Rattle.table_value.specs.declared.ValueRead.the-variants.{Held, Null, Bad}
 
@@ -65,7 +65,7 @@ integerHeld at end TooLarge = Bad 18 at
 
 unfoldable pub numberIn : ℕ → ℕ → ℕ → Value → ValueRead
 numberIn at ty end v =
-    cond (eqb ty decimal) (decimalHeld at end v) (cond (eqb ty integer) (integerHeld at end (integerOf v)) (Bad 15 at))
+    cond (eqb ty decimalType) (decimalHeld at end v) (cond (eqb ty integer) (integerHeld at end (integerOf v)) (Bad 15 at))
 
 unfoldable pub numberValue : ℕ → ℕ → Number → ValueRead
 numberValue at ty n =

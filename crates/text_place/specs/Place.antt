@@ -19,9 +19,9 @@ unfoldable pub isLineFeed : ℕ → Bool
 isLineFeed b = eqb b 10
 
 -- how many bytes of a list pass a test
-unfoldable pub count : (ℕ → Bool) → List ℕ → ℕ
-count f [] = 0
-count f (b ∷ bs) = cond (f b) (suc (count f bs)) (count f bs)
+unfoldable pub countWhere : (ℕ → Bool) → List ℕ → ℕ
+countWhere f [] = 0
+countWhere f (b ∷ bs) = cond (f b) (suc (countWhere f bs)) (countWhere f bs)
 
 -- the first n bytes, the last of them first
 unfoldable pub backwards : List ℕ → ℕ → List ℕ
@@ -39,7 +39,7 @@ spot line column = record { line = line; column = column }
 -- the spot behind the first n bytes: 1 and the line feeds among them; 1 and the characters behind the last line feed, or
 -- behind the start
 unfoldable pub spotBehind : List ℕ → ℕ → Spot
-spotBehind s n = spot (suc (count isLineFeed (backwards s n))) (suc (count isCharacter (upToFeed (backwards s n))))
+spotBehind s n = spot (suc (countWhere isLineFeed (backwards s n))) (suc (countWhere isCharacter (upToFeed (backwards s n))))
 
 -- the spot of a place; that of the end for any place past it
 unfoldable pub spotAt : List ℕ → ℕ → Spot

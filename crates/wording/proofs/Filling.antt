@@ -12,7 +12,7 @@ use lib.Seq.{drop-cons}
 use lib.Dec.{leb}
 use Rattle.parts.specs.Part.{partOf}
 use Rattle.parts.proofs.Laws.{part-is}
-use Rattle.table_rows.specs.Ascii.{codes}
+use Rattle.json_bytes.specs.Ascii.{codes}
 use Rattle.cut_value.specs.Cut.{cutLength}
 use Rattle.cut_value.proofs.Laws.{at-most-80}
 use Rattle.output.specs.Decimal.{decimal}

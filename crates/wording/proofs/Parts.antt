@@ -11,7 +11,7 @@ use lib.ListN.{length, getD, take, drop, length-append, List·getD-eq-default}
 use lib.Seq.{take-append-seam, drop-append-add}
 use Rattle.parts.specs.Part.{partOf}
 use Rattle.parts.proofs.Laws.{part-is}
-use Rattle.table_rows.specs.Ascii.{codes}
+use Rattle.json_bytes.specs.Ascii.{codes}
 use Rattle.table_rows.specs.Rows.{countBefore}
 use Rattle.table_rows.proofs.Laws.{count-next, count-past, count-within}
 use Rattle.output.specs.Output.{Output, put}

@@ -5,7 +5,7 @@ use mathlib.Core.Bool.{cond}
 use mathlib.Core.List.{List, [], _∷_}
 use lib.ListN.{getD}
 use lib.Dec.{ltb, eqb}
-use Rattle.table_rows.specs.Ascii.{codes}
+use Rattle.json_bytes.specs.Ascii.{codes}
 use Rattle.gate_lists.specs.declared.Which.{Which}
 use Rattle.gate_lists.specs.declared.Which.the-variants.{Schedule, Baseline, Contract}
 
@@ -149,8 +149,8 @@ ofKind Schedule kind = kindAmong kind
 ofKind Baseline kind = kindAmong kind
 ofKind Contract kind = cond (eqb kind 12) 115 (kindAmong kind)
 
-abbrev pub notJudged : ℕ
-notJudged = 83
+abbrev pub notJudgedSentence : ℕ
+notJudgedSentence = 83
 
 abbrev pub keepsMany : ℕ
 keepsMany = 84

@@ -10,7 +10,7 @@ use lib.ListN.{length, take}
 use lib.Dec.{ltb, eqb}
 use Rattle.output.specs.Decimal.{decimal}
 use Rattle.cut_value.specs.Cut.{cutLength}
-use Rattle.table_rows.specs.Ascii.{codes}
+use Rattle.json_bytes.specs.Ascii.{codes}
 use Rattle.gate_lists.specs.declared.Which.{Which}
 use Rattle.gate_names.specs.Names.{fileNameOf, tableNameOf, fieldNameOf}
 use Rattle.wording.specs.declared.Slots.{Slots}

@@ -7,7 +7,7 @@ use borrow.Author.Needs.{needs}
 use Rattle.cost_element.proofs.element_of.Statement.{statement}
 use Rattle.cost_element.proofs.element_of.Tie as tie
 use Rattle.json_chars.specs.Chars.{charsAt}
-use Rattle.rule_cells.specs.Cells.{table, firstFrom, firstOf}
+use Rattle.rule_cells.specs.Cells.{table, firstFrom, firstThat}
 use Rattle.rule_cells.proofs.Laws.{search-hits, search-goes-on, search-ends}
 use Rattle.cost_element.specs.Found.{isOfFound, elementFound}
 
@@ -18,7 +18,7 @@ abbrev μ-loop : tie.MeasureT-loop
 μ-loop s at u cells width firsts sums order e₀ e = 4 - e
 
 loop-holds : tie.Need-loop-holds Inv-loop μ-loop
-unfolding elementFound firstOf
+unfolding elementFound firstThat
 loop-holds c = refl
 
 is-of-requires : tie.Need-is-of-requires Inv-loop μ-loop

@@ -7,18 +7,18 @@ use borrow.Author.Needs.{needs}
 use Rattle.cost_element.proofs.first_named.Statement.{statement}
 use Rattle.cost_element.proofs.first_named.Tie as tie
 use native.Mathlib.Nat.{sub-zero}
-use Rattle.rule_cells.specs.Cells.{table, isWord, firstFrom, firstOf}
+use Rattle.rule_cells.specs.Cells.{table, isWord, firstFrom, firstThat}
 use Rattle.rule_cells.proofs.Laws.{search-hits, search-goes-on, search-ends}
 use Rattle.cost_element.specs.Element.{elementID}
 
 abbrev Inv-loop : tie.InvT-loop
-Inv-loop u cells width records name q₀ q = firstOf (λ (x : ℕ). isWord (table u cells width 0) x elementID name) records ≡ firstFrom (λ (x : ℕ). isWord (table u cells width 0) x elementID name) (records - q) q
+Inv-loop u cells width records name q₀ q = firstThat (λ (x : ℕ). isWord (table u cells width 0) x elementID name) records ≡ firstFrom (λ (x : ℕ). isWord (table u cells width 0) x elementID name) (records - q) q
 
 abbrev μ-loop : tie.MeasureT-loop
 μ-loop u cells width records name q₀ q = records - q
 
 loop-holds : tie.Need-loop-holds Inv-loop μ-loop
-unfolding firstOf
+unfolding firstThat
 loop-holds c = rw sub-zero
 
 is-word-requires : tie.Need-is-word-requires Inv-loop μ-loop

@@ -6,7 +6,7 @@ use mathlib.Core.Bool.{true}
 use borrow.Author.Needs.{needs}
 use lib.ListN.{length-replicate}
 use Rattle.drawer_layout.specs.Places.{listOf}
-use Rattle.drawer_held.specs.Drawer.{numberAt}
+use Rattle.drawer_held.specs.Drawer.{headerNumber}
 use Rattle.drawer_held.proofs.Laws.{lengths-read}
 use Rattle.drawer_bundles.proofs.Laws.{length-read}
 use Rattle.drawer_bundles.proofs.held_length.Statement.{statement}
@@ -28,7 +28,7 @@ add-result : tie.Need-add-result
 add-result c = search needs
 
 returns : tie.Need-returns
-returns c = length-read _ (c .before .before .before .before .before .before .pre) (lengths-read 20 _ (c .before .before .before .read-numbers .ensures ∙ ap (listOf (numberAt _ true)) (length-replicate {A = ℕ} 20 0))) (c .all-lengths .ensures .0)
+returns c = length-read _ (c .before .before .before .before .before .before .pre) (lengths-read 20 _ (c .before .before .before .read-numbers .ensures ∙ ap (listOf (headerNumber _ true)) (length-replicate {A = ℕ} 20 0))) (c .all-lengths .ensures .0)
 
 pub held-length-spec : {M : Type 1} → statement M
 held-length-spec =

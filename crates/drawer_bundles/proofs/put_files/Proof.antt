@@ -6,14 +6,14 @@ use mathlib.Core.List.{_++_}
 use native.Mathlib.Omega.{arith}
 use borrow.Author.Needs.{needs}
 use lib.ListN.{length, take, drop}
-use Rattle.bundle_bytes.specs.Pieces.{joined, startOf}
+use Rattle.bundle_bytes.specs.Pieces.{joined, pieceStart}
 use Rattle.bundle_layout.specs.Bundle.{headerSize, fileAt, piecesOf}
 use Rattle.bundle.proofs.Laws.{file-fits, end-begins, end-turn, files-begin, files-turn, files-end}
 use Rattle.drawer_bundles.proofs.put_files.Statement.{statement}
 use Rattle.drawer_bundles.proofs.put_files.Tie as tie
 
 abbrev Inv-loop : tie.InvT-loop
-Inv-loop d out₀ end₀ i₀ out end i = (i ≤ 20) × (length out ≡ length out₀) × (end ≡ headerSize 20 + startOf (piecesOf (fileAt d)) i) × (out ≡ take (headerSize 20) out₀ ++ joined (piecesOf (fileAt d)) i ++ drop (headerSize 20 + startOf (piecesOf (fileAt d)) i) out₀)
+Inv-loop d out₀ end₀ i₀ out end i = (i ≤ 20) × (length out ≡ length out₀) × (end ≡ headerSize 20 + pieceStart (piecesOf (fileAt d)) i) × (out ≡ take (headerSize 20) out₀ ++ joined (piecesOf (fileAt d)) i ++ drop (headerSize 20 + pieceStart (piecesOf (fileAt d)) i) out₀)
 
 abbrev μ-loop : tie.MeasureT-loop
 μ-loop d out₀ end₀ i₀ out end i = 20 - i

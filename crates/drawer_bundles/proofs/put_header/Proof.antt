@@ -7,14 +7,14 @@ use mathlib.Core.List.{_++_}
 use native.Mathlib.Omega.{arith}
 use borrow.Author.Needs.{needs}
 use lib.ListN.{length, drop}
-use Rattle.bundle_bytes.specs.Pieces.{startOf}
+use Rattle.bundle_bytes.specs.Pieces.{pieceStart}
 use Rattle.bundle_layout.specs.Bundle.{headerSize, fileAt, piecesOf}
 use Rattle.bundle.proofs.Laws.{header-fits, file-fits, end-begins, end-turn, fronts, header-begins, header-turn, header-ends, shown-present}
 use Rattle.drawer_bundles.proofs.put_header.Statement.{statement}
 use Rattle.drawer_bundles.proofs.put_header.Tie as tie
 
 abbrev Inv-loop : tie.InvT-loop
-Inv-loop d out₀ end₀ i₀ out end i = (i ≤ 20) × (length out ≡ length out₀) × (end ≡ headerSize 20 + startOf (piecesOf (fileAt d)) i) × (out ≡ fronts 20 (fileAt d) i ++ drop (4 + 8 * i) out₀)
+Inv-loop d out₀ end₀ i₀ out end i = (i ≤ 20) × (length out ≡ length out₀) × (end ≡ headerSize 20 + pieceStart (piecesOf (fileAt d)) i) × (out ≡ fronts 20 (fileAt d) i ++ drop (4 + 8 * i) out₀)
 
 abbrev μ-loop : tie.MeasureT-loop
 μ-loop d out₀ end₀ i₀ out end i = 20 - i

@@ -8,7 +8,7 @@ use denote.Ref.{now}
 use mathlib.Core.Bool.{true, false}
 use Rattle.drawer_layout.specs.Places.{listOf}
 use Rattle.drawer_moves.proofs.Sums.{list-length}
-use Rattle.drawer_held.specs.Drawer.{numberAt}
+use Rattle.drawer_held.specs.Drawer.{headerNumber}
 use Rattle.drawer_held.proofs.Laws.{offsets-read, lengths-read}
 use Rattle.drawer_change.proofs.Lists.{moved-length}
 use Rattle.drawer_change.proofs.Placing.{number-fine}
@@ -66,7 +66,7 @@ slice-aggregate-moved-places-3 : tie.Need-slice-aggregate-moved-places-3
 slice-aggregate-moved-places-3 c = search needs
 
 moved-places-requires : tie.Need-moved-places-requires
-moved-places-requires c κs = (sum-small _ _ _ (c .before .before .before .before .before .before .before .before .before .before .before .before .before .before .before .before .before .before .before .before .before .before .before .before .pre) (offsets-read 20 _ (c .before .before .before .before .before .before .before .before .before .before .before .before .before .before .before .before .before .before .before .read-numbers .ensures ∙ ap (listOf (numberAt _ false)) (length-replicate {A = ℕ} 20 0))) (lengths-read 20 _ (c .before .before .before .before .before .before .before .before .before .before .before .before .before .before .before .read-numbers2 .ensures ∙ ap (listOf (numberAt _ true)) (length-replicate {A = ℕ} 20 0))) (c .before .before .before .before .before .before .before .before .before .before .before .before .before .new-part .ensures) (there-is (c .before .before .before .before .before .before .before .before .before .before .before .before .before .before .before .before .before .before .before .before .before .before .before .before .args .present) (now (c .before .before .before .before .before .before .before .before .before .before .before .before .before .before .before .before .before .before .before .before .before .before .before .before .args .new))) (c .before .before .before .before .before .before .before .before .before .before .choose-place .ensures), length-replicate {A = ℕ} 20 0)
+moved-places-requires c κs = (sum-small _ _ _ (c .before .before .before .before .before .before .before .before .before .before .before .before .before .before .before .before .before .before .before .before .before .before .before .before .pre) (offsets-read 20 _ (c .before .before .before .before .before .before .before .before .before .before .before .before .before .before .before .before .before .before .before .read-numbers .ensures ∙ ap (listOf (headerNumber _ false)) (length-replicate {A = ℕ} 20 0))) (lengths-read 20 _ (c .before .before .before .before .before .before .before .before .before .before .before .before .before .before .before .read-numbers2 .ensures ∙ ap (listOf (headerNumber _ true)) (length-replicate {A = ℕ} 20 0))) (c .before .before .before .before .before .before .before .before .before .before .before .before .before .new-part .ensures) (there-is (c .before .before .before .before .before .before .before .before .before .before .before .before .before .before .before .before .before .before .before .before .before .before .before .before .args .present) (now (c .before .before .before .before .before .before .before .before .before .before .before .before .before .before .before .before .before .before .before .before .before .before .before .before .args .new))) (c .before .before .before .before .before .before .before .before .before .before .choose-place .ensures), length-replicate {A = ℕ} 20 0)
 
 slice-aggregate-put-file : tie.Need-slice-aggregate-put-file
 slice-aggregate-put-file c = search needs
@@ -75,7 +75,7 @@ slice-aggregate-put-file-2 : tie.Need-slice-aggregate-put-file-2
 slice-aggregate-put-file-2 c = search needs
 
 put-file-requires : tie.Need-put-file-requires
-put-file-requires c κs = (omega (arith, drawer-long _ _ _ (c .before .before .before .before .before .before .before .before .before .before .before .before .before .before .before .before .before .before .before .before .before .before .before .before .before .before .before .before .before .pre) (offsets-read 20 _ (c .before .before .before .before .before .before .before .before .before .before .before .before .before .before .before .before .before .before .before .before .before .before .before .before .read-numbers .ensures ∙ ap (listOf (numberAt _ false)) (length-replicate {A = ℕ} 20 0))) (lengths-read 20 _ (c .before .before .before .before .before .before .before .before .before .before .before .before .before .before .before .before .before .before .before .before .read-numbers2 .ensures ∙ ap (listOf (numberAt _ true)) (length-replicate {A = ℕ} 20 0))) (c .before .before .before .before .before .before .before .before .before .before .before .before .before .before .before .before .before .before .new-part .ensures) (there-is (c .before .before .before .before .before .before .before .before .before .before .before .before .before .before .before .before .before .before .before .before .before .before .before .before .before .before .before .before .before .args .present) (now (c .before .before .before .before .before .before .before .before .before .before .before .before .before .before .before .before .before .before .before .before .before .before .before .before .before .before .before .before .before .args .new))) (c .before .before .before .before .before .before .before .before .before .before .before .before .before .before .before .choose-place .ensures), c .before .before .before .before .before .before .before .before .before .before .move-down .kept .0), ap length (c .before .before .before .before .moved-places .ensures) ∙ moved-length 20 _ _, freed-long _ _ _ (c .before .before .before .before .before .before .before .before .before .before .before .before .before .before .before .before .before .before .before .before .before .before .before .before .before .before .before .before .before .pre) (offsets-read 20 _ (c .before .before .before .before .before .before .before .before .before .before .before .before .before .before .before .before .before .before .before .before .before .before .before .before .read-numbers .ensures ∙ ap (listOf (numberAt _ false)) (length-replicate {A = ℕ} 20 0))) (lengths-read 20 _ (c .before .before .before .before .before .before .before .before .before .before .before .before .before .before .before .before .before .before .before .before .read-numbers2 .ensures ∙ ap (listOf (numberAt _ true)) (length-replicate {A = ℕ} 20 0))) (c .before .before .before .before .before .before .before .before .before .before .before .before .before .before .before .before .before .before .new-part .ensures) (there-is (c .before .before .before .before .before .before .before .before .before .before .before .before .before .before .before .before .before .before .before .before .before .before .before .before .before .before .before .before .before .args .present) (now (c .before .before .before .before .before .before .before .before .before .before .before .before .before .before .before .before .before .before .before .before .before .before .before .before .before .before .before .before .before .args .new))) (c .before .before .before .before .before .before .before .before .before .before .before .before .before .before .before .choose-place .ensures), number-small _ _ _ (c .before .before .before .before .before .before .before .before .before .before .before .before .before .before .before .before .before .before .before .before .before .before .before .before .before .before .before .before .before .pre) (offsets-read 20 _ (c .before .before .before .before .before .before .before .before .before .before .before .before .before .before .before .before .before .before .before .before .before .before .before .before .read-numbers .ensures ∙ ap (listOf (numberAt _ false)) (length-replicate {A = ℕ} 20 0))) (lengths-read 20 _ (c .before .before .before .before .before .before .before .before .before .before .before .before .before .before .before .before .before .before .before .before .read-numbers2 .ensures ∙ ap (listOf (numberAt _ true)) (length-replicate {A = ℕ} 20 0))) (c .before .before .before .before .before .before .before .before .before .before .before .before .before .before .before .before .before .before .new-part .ensures) (there-is (c .before .before .before .before .before .before .before .before .before .before .before .before .before .before .before .before .before .before .before .before .before .before .before .before .before .before .before .before .before .args .present) (now (c .before .before .before .before .before .before .before .before .before .before .before .before .before .before .before .before .before .before .before .before .before .before .before .before .before .before .before .before .before .args .new))) (c .before .before .before .before .before .before .before .before .before .before .before .before .before .before .before .choose-place .ensures), place-small _ _ _ (c .before .before .before .before .before .before .before .before .before .before .before .before .before .before .before .before .before .before .before .before .before .before .before .before .before .before .before .before .before .pre) (offsets-read 20 _ (c .before .before .before .before .before .before .before .before .before .before .before .before .before .before .before .before .before .before .before .before .before .before .before .before .read-numbers .ensures ∙ ap (listOf (numberAt _ false)) (length-replicate {A = ℕ} 20 0))) (lengths-read 20 _ (c .before .before .before .before .before .before .before .before .before .before .before .before .before .before .before .before .before .before .before .before .read-numbers2 .ensures ∙ ap (listOf (numberAt _ true)) (length-replicate {A = ℕ} 20 0))) (c .before .before .before .before .before .before .before .before .before .before .before .before .before .before .before .before .before .before .new-part .ensures) (there-is (c .before .before .before .before .before .before .before .before .before .before .before .before .before .before .before .before .before .before .before .before .before .before .before .before .before .before .before .before .before .args .present) (now (c .before .before .before .before .before .before .before .before .before .before .before .before .before .before .before .before .before .before .before .before .before .before .before .before .before .before .before .before .before .args .new))) (c .before .before .before .before .before .before .before .before .before .before .before .before .before .before .before .choose-place .ensures), piece-small _ _ _ (c .before .before .before .before .before .before .before .before .before .before .before .before .before .before .before .before .before .before .before .before .before .before .before .before .before .before .before .before .before .pre) (offsets-read 20 _ (c .before .before .before .before .before .before .before .before .before .before .before .before .before .before .before .before .before .before .before .before .before .before .before .before .read-numbers .ensures ∙ ap (listOf (numberAt _ false)) (length-replicate {A = ℕ} 20 0))) (lengths-read 20 _ (c .before .before .before .before .before .before .before .before .before .before .before .before .before .before .before .before .before .before .before .before .read-numbers2 .ensures ∙ ap (listOf (numberAt _ true)) (length-replicate {A = ℕ} 20 0))) (c .before .before .before .before .before .before .before .before .before .before .before .before .before .before .before .before .before .before .new-part .ensures) (there-is (c .before .before .before .before .before .before .before .before .before .before .before .before .before .before .before .before .before .before .before .before .before .before .before .before .before .before .before .before .before .args .present) (now (c .before .before .before .before .before .before .before .before .before .before .before .before .before .before .before .before .before .before .before .before .before .before .before .before .before .before .before .before .before .args .new))) (c .before .before .before .before .before .before .before .before .before .before .before .before .before .before .before .choose-place .ensures))
+put-file-requires c κs = (omega (arith, drawer-long _ _ _ (c .before .before .before .before .before .before .before .before .before .before .before .before .before .before .before .before .before .before .before .before .before .before .before .before .before .before .before .before .before .pre) (offsets-read 20 _ (c .before .before .before .before .before .before .before .before .before .before .before .before .before .before .before .before .before .before .before .before .before .before .before .before .read-numbers .ensures ∙ ap (listOf (headerNumber _ false)) (length-replicate {A = ℕ} 20 0))) (lengths-read 20 _ (c .before .before .before .before .before .before .before .before .before .before .before .before .before .before .before .before .before .before .before .before .read-numbers2 .ensures ∙ ap (listOf (headerNumber _ true)) (length-replicate {A = ℕ} 20 0))) (c .before .before .before .before .before .before .before .before .before .before .before .before .before .before .before .before .before .before .new-part .ensures) (there-is (c .before .before .before .before .before .before .before .before .before .before .before .before .before .before .before .before .before .before .before .before .before .before .before .before .before .before .before .before .before .args .present) (now (c .before .before .before .before .before .before .before .before .before .before .before .before .before .before .before .before .before .before .before .before .before .before .before .before .before .before .before .before .before .args .new))) (c .before .before .before .before .before .before .before .before .before .before .before .before .before .before .before .choose-place .ensures), c .before .before .before .before .before .before .before .before .before .before .move-down .kept .0), ap length (c .before .before .before .before .moved-places .ensures) ∙ moved-length 20 _ _, freed-long _ _ _ (c .before .before .before .before .before .before .before .before .before .before .before .before .before .before .before .before .before .before .before .before .before .before .before .before .before .before .before .before .before .pre) (offsets-read 20 _ (c .before .before .before .before .before .before .before .before .before .before .before .before .before .before .before .before .before .before .before .before .before .before .before .before .read-numbers .ensures ∙ ap (listOf (headerNumber _ false)) (length-replicate {A = ℕ} 20 0))) (lengths-read 20 _ (c .before .before .before .before .before .before .before .before .before .before .before .before .before .before .before .before .before .before .before .before .read-numbers2 .ensures ∙ ap (listOf (headerNumber _ true)) (length-replicate {A = ℕ} 20 0))) (c .before .before .before .before .before .before .before .before .before .before .before .before .before .before .before .before .before .before .new-part .ensures) (there-is (c .before .before .before .before .before .before .before .before .before .before .before .before .before .before .before .before .before .before .before .before .before .before .before .before .before .before .before .before .before .args .present) (now (c .before .before .before .before .before .before .before .before .before .before .before .before .before .before .before .before .before .before .before .before .before .before .before .before .before .before .before .before .before .args .new))) (c .before .before .before .before .before .before .before .before .before .before .before .before .before .before .before .choose-place .ensures), number-small _ _ _ (c .before .before .before .before .before .before .before .before .before .before .before .before .before .before .before .before .before .before .before .before .before .before .before .before .before .before .before .before .before .pre) (offsets-read 20 _ (c .before .before .before .before .before .before .before .before .before .before .before .before .before .before .before .before .before .before .before .before .before .before .before .before .read-numbers .ensures ∙ ap (listOf (headerNumber _ false)) (length-replicate {A = ℕ} 20 0))) (lengths-read 20 _ (c .before .before .before .before .before .before .before .before .before .before .before .before .before .before .before .before .before .before .before .before .read-numbers2 .ensures ∙ ap (listOf (headerNumber _ true)) (length-replicate {A = ℕ} 20 0))) (c .before .before .before .before .before .before .before .before .before .before .before .before .before .before .before .before .before .before .new-part .ensures) (there-is (c .before .before .before .before .before .before .before .before .before .before .before .before .before .before .before .before .before .before .before .before .before .before .before .before .before .before .before .before .before .args .present) (now (c .before .before .before .before .before .before .before .before .before .before .before .before .before .before .before .before .before .before .before .before .before .before .before .before .before .before .before .before .before .args .new))) (c .before .before .before .before .before .before .before .before .before .before .before .before .before .before .before .choose-place .ensures), place-small _ _ _ (c .before .before .before .before .before .before .before .before .before .before .before .before .before .before .before .before .before .before .before .before .before .before .before .before .before .before .before .before .before .pre) (offsets-read 20 _ (c .before .before .before .before .before .before .before .before .before .before .before .before .before .before .before .before .before .before .before .before .before .before .before .before .read-numbers .ensures ∙ ap (listOf (headerNumber _ false)) (length-replicate {A = ℕ} 20 0))) (lengths-read 20 _ (c .before .before .before .before .before .before .before .before .before .before .before .before .before .before .before .before .before .before .before .before .read-numbers2 .ensures ∙ ap (listOf (headerNumber _ true)) (length-replicate {A = ℕ} 20 0))) (c .before .before .before .before .before .before .before .before .before .before .before .before .before .before .before .before .before .before .new-part .ensures) (there-is (c .before .before .before .before .before .before .before .before .before .before .before .before .before .before .before .before .before .before .before .before .before .before .before .before .before .before .before .before .before .args .present) (now (c .before .before .before .before .before .before .before .before .before .before .before .before .before .before .before .before .before .before .before .before .before .before .before .before .before .before .before .before .before .args .new))) (c .before .before .before .before .before .before .before .before .before .before .before .before .before .before .before .choose-place .ensures), piece-small _ _ _ (c .before .before .before .before .before .before .before .before .before .before .before .before .before .before .before .before .before .before .before .before .before .before .before .before .before .before .before .before .before .pre) (offsets-read 20 _ (c .before .before .before .before .before .before .before .before .before .before .before .before .before .before .before .before .before .before .before .before .before .before .before .before .read-numbers .ensures ∙ ap (listOf (headerNumber _ false)) (length-replicate {A = ℕ} 20 0))) (lengths-read 20 _ (c .before .before .before .before .before .before .before .before .before .before .before .before .before .before .before .before .before .before .before .before .read-numbers2 .ensures ∙ ap (listOf (headerNumber _ true)) (length-replicate {A = ℕ} 20 0))) (c .before .before .before .before .before .before .before .before .before .before .before .before .before .before .before .before .before .before .new-part .ensures) (there-is (c .before .before .before .before .before .before .before .before .before .before .before .before .before .before .before .before .before .before .before .before .before .before .before .before .before .before .before .before .before .args .present) (now (c .before .before .before .before .before .before .before .before .before .before .before .before .before .before .before .before .before .before .before .before .before .before .before .before .before .before .before .before .before .args .new))) (c .before .before .before .before .before .before .before .before .before .before .before .before .before .before .before .choose-place .ensures))
 
 slice-aggregate-put-file-3 : tie.Need-slice-aggregate-put-file-3
 slice-aggregate-put-file-3 c = search needs
@@ -84,19 +84,19 @@ slice-aggregate-put-file-4 : tie.Need-slice-aggregate-put-file-4
 slice-aggregate-put-file-4 c = search needs
 
 put-file-requires-2 : tie.Need-put-file-requires-2
-put-file-requires-2 c κs = (drawer-long _ _ _ (c .before .before .before .before .before .before .before .before .before .before .before .before .before .before .before .before .before .before .pre) (offsets-read 20 _ (c .before .before .before .before .before .before .before .before .before .before .before .before .before .read-numbers .ensures ∙ ap (listOf (numberAt _ false)) (length-replicate {A = ℕ} 20 0))) (lengths-read 20 _ (c .before .before .before .before .before .before .before .before .before .read-numbers2 .ensures ∙ ap (listOf (numberAt _ true)) (length-replicate {A = ℕ} 20 0))) (c .before .before .before .before .before .before .before .new-part .ensures) (there-is (c .before .before .before .before .before .before .before .before .before .before .before .before .before .before .before .before .before .before .args .present) (now (c .before .before .before .before .before .before .before .before .before .before .before .before .before .before .before .before .before .before .args .new))) (c .before .before .before .before .choose-place .ensures), ap length (c .before .before .before .before .before .before .before .before .before .before .before .before .before .read-numbers .ensures ∙ ap (listOf (numberAt _ false)) (length-replicate {A = ℕ} 20 0)) ∙ list-length _ 20, freed-long _ _ _ (c .before .before .before .before .before .before .before .before .before .before .before .before .before .before .before .before .before .before .pre) (offsets-read 20 _ (c .before .before .before .before .before .before .before .before .before .before .before .before .before .read-numbers .ensures ∙ ap (listOf (numberAt _ false)) (length-replicate {A = ℕ} 20 0))) (lengths-read 20 _ (c .before .before .before .before .before .before .before .before .before .read-numbers2 .ensures ∙ ap (listOf (numberAt _ true)) (length-replicate {A = ℕ} 20 0))) (c .before .before .before .before .before .before .before .new-part .ensures) (there-is (c .before .before .before .before .before .before .before .before .before .before .before .before .before .before .before .before .before .before .args .present) (now (c .before .before .before .before .before .before .before .before .before .before .before .before .before .before .before .before .before .before .args .new))) (c .before .before .before .before .choose-place .ensures), number-small _ _ _ (c .before .before .before .before .before .before .before .before .before .before .before .before .before .before .before .before .before .before .pre) (offsets-read 20 _ (c .before .before .before .before .before .before .before .before .before .before .before .before .before .read-numbers .ensures ∙ ap (listOf (numberAt _ false)) (length-replicate {A = ℕ} 20 0))) (lengths-read 20 _ (c .before .before .before .before .before .before .before .before .before .read-numbers2 .ensures ∙ ap (listOf (numberAt _ true)) (length-replicate {A = ℕ} 20 0))) (c .before .before .before .before .before .before .before .new-part .ensures) (there-is (c .before .before .before .before .before .before .before .before .before .before .before .before .before .before .before .before .before .before .args .present) (now (c .before .before .before .before .before .before .before .before .before .before .before .before .before .before .before .before .before .before .args .new))) (c .before .before .before .before .choose-place .ensures), place-small _ _ _ (c .before .before .before .before .before .before .before .before .before .before .before .before .before .before .before .before .before .before .pre) (offsets-read 20 _ (c .before .before .before .before .before .before .before .before .before .before .before .before .before .read-numbers .ensures ∙ ap (listOf (numberAt _ false)) (length-replicate {A = ℕ} 20 0))) (lengths-read 20 _ (c .before .before .before .before .before .before .before .before .before .read-numbers2 .ensures ∙ ap (listOf (numberAt _ true)) (length-replicate {A = ℕ} 20 0))) (c .before .before .before .before .before .before .before .new-part .ensures) (there-is (c .before .before .before .before .before .before .before .before .before .before .before .before .before .before .before .before .before .before .args .present) (now (c .before .before .before .before .before .before .before .before .before .before .before .before .before .before .before .before .before .before .args .new))) (c .before .before .before .before .choose-place .ensures), piece-small _ _ _ (c .before .before .before .before .before .before .before .before .before .before .before .before .before .before .before .before .before .before .pre) (offsets-read 20 _ (c .before .before .before .before .before .before .before .before .before .before .before .before .before .read-numbers .ensures ∙ ap (listOf (numberAt _ false)) (length-replicate {A = ℕ} 20 0))) (lengths-read 20 _ (c .before .before .before .before .before .before .before .before .before .read-numbers2 .ensures ∙ ap (listOf (numberAt _ true)) (length-replicate {A = ℕ} 20 0))) (c .before .before .before .before .before .before .before .new-part .ensures) (there-is (c .before .before .before .before .before .before .before .before .before .before .before .before .before .before .before .before .before .before .args .present) (now (c .before .before .before .before .before .before .before .before .before .before .before .before .before .before .before .before .before .before .args .new))) (c .before .before .before .before .choose-place .ensures))
+put-file-requires-2 c κs = (drawer-long _ _ _ (c .before .before .before .before .before .before .before .before .before .before .before .before .before .before .before .before .before .before .pre) (offsets-read 20 _ (c .before .before .before .before .before .before .before .before .before .before .before .before .before .read-numbers .ensures ∙ ap (listOf (headerNumber _ false)) (length-replicate {A = ℕ} 20 0))) (lengths-read 20 _ (c .before .before .before .before .before .before .before .before .before .read-numbers2 .ensures ∙ ap (listOf (headerNumber _ true)) (length-replicate {A = ℕ} 20 0))) (c .before .before .before .before .before .before .before .new-part .ensures) (there-is (c .before .before .before .before .before .before .before .before .before .before .before .before .before .before .before .before .before .before .args .present) (now (c .before .before .before .before .before .before .before .before .before .before .before .before .before .before .before .before .before .before .args .new))) (c .before .before .before .before .choose-place .ensures), ap length (c .before .before .before .before .before .before .before .before .before .before .before .before .before .read-numbers .ensures ∙ ap (listOf (headerNumber _ false)) (length-replicate {A = ℕ} 20 0)) ∙ list-length _ 20, freed-long _ _ _ (c .before .before .before .before .before .before .before .before .before .before .before .before .before .before .before .before .before .before .pre) (offsets-read 20 _ (c .before .before .before .before .before .before .before .before .before .before .before .before .before .read-numbers .ensures ∙ ap (listOf (headerNumber _ false)) (length-replicate {A = ℕ} 20 0))) (lengths-read 20 _ (c .before .before .before .before .before .before .before .before .before .read-numbers2 .ensures ∙ ap (listOf (headerNumber _ true)) (length-replicate {A = ℕ} 20 0))) (c .before .before .before .before .before .before .before .new-part .ensures) (there-is (c .before .before .before .before .before .before .before .before .before .before .before .before .before .before .before .before .before .before .args .present) (now (c .before .before .before .before .before .before .before .before .before .before .before .before .before .before .before .before .before .before .args .new))) (c .before .before .before .before .choose-place .ensures), number-small _ _ _ (c .before .before .before .before .before .before .before .before .before .before .before .before .before .before .before .before .before .before .pre) (offsets-read 20 _ (c .before .before .before .before .before .before .before .before .before .before .before .before .before .read-numbers .ensures ∙ ap (listOf (headerNumber _ false)) (length-replicate {A = ℕ} 20 0))) (lengths-read 20 _ (c .before .before .before .before .before .before .before .before .before .read-numbers2 .ensures ∙ ap (listOf (headerNumber _ true)) (length-replicate {A = ℕ} 20 0))) (c .before .before .before .before .before .before .before .new-part .ensures) (there-is (c .before .before .before .before .before .before .before .before .before .before .before .before .before .before .before .before .before .before .args .present) (now (c .before .before .before .before .before .before .before .before .before .before .before .before .before .before .before .before .before .before .args .new))) (c .before .before .before .before .choose-place .ensures), place-small _ _ _ (c .before .before .before .before .before .before .before .before .before .before .before .before .before .before .before .before .before .before .pre) (offsets-read 20 _ (c .before .before .before .before .before .before .before .before .before .before .before .before .before .read-numbers .ensures ∙ ap (listOf (headerNumber _ false)) (length-replicate {A = ℕ} 20 0))) (lengths-read 20 _ (c .before .before .before .before .before .before .before .before .before .read-numbers2 .ensures ∙ ap (listOf (headerNumber _ true)) (length-replicate {A = ℕ} 20 0))) (c .before .before .before .before .before .before .before .new-part .ensures) (there-is (c .before .before .before .before .before .before .before .before .before .before .before .before .before .before .before .before .before .before .args .present) (now (c .before .before .before .before .before .before .before .before .before .before .before .before .before .before .before .before .before .before .args .new))) (c .before .before .before .before .choose-place .ensures), piece-small _ _ _ (c .before .before .before .before .before .before .before .before .before .before .before .before .before .before .before .before .before .before .pre) (offsets-read 20 _ (c .before .before .before .before .before .before .before .before .before .before .before .before .before .read-numbers .ensures ∙ ap (listOf (headerNumber _ false)) (length-replicate {A = ℕ} 20 0))) (lengths-read 20 _ (c .before .before .before .before .before .before .before .before .before .read-numbers2 .ensures ∙ ap (listOf (headerNumber _ true)) (length-replicate {A = ℕ} 20 0))) (c .before .before .before .before .before .before .before .new-part .ensures) (there-is (c .before .before .before .before .before .before .before .before .before .before .before .before .before .before .before .before .before .before .args .present) (now (c .before .before .before .before .before .before .before .before .before .before .before .before .before .before .before .before .before .before .args .new))) (c .before .before .before .before .choose-place .ensures))
 
 same-length : tie.Need-same-length
 same-length c = search needs
 
 returns : tie.Need-returns
-returns c = change-moved _ _ _ (c .before .before .before .before .before .before .before .before .before .before .before .before .before .before .before .before .before .before .before .before .before .before .before .before .before .before .before .before .before .before .before .before .before .before .pre) (offsets-read 20 _ (c .before .before .before .before .before .before .before .before .before .before .before .before .before .before .before .before .before .before .before .before .before .before .before .before .before .before .before .before .before .read-numbers .ensures ∙ ap (listOf (numberAt _ false)) (length-replicate {A = ℕ} 20 0))) (lengths-read 20 _ (c .before .before .before .before .before .before .before .before .before .before .before .before .before .before .before .before .before .before .before .before .before .before .before .before .before .read-numbers2 .ensures ∙ ap (listOf (numberAt _ true)) (length-replicate {A = ℕ} 20 0))) (c .before .before .before .before .before .before .before .before .before .before .before .before .before .before .before .before .before .before .before .before .before .before .before .new-part .ensures) (there-is (c .before .before .before .before .before .before .before .before .before .before .before .before .before .before .before .before .before .before .before .before .before .before .before .before .before .before .before .before .before .before .before .before .before .before .args .present) (now (c .before .before .before .before .before .before .before .before .before .before .before .before .before .before .before .before .before .before .before .before .before .before .before .before .before .before .before .before .before .before .before .before .before .before .args .new))) (c .before .before .before .before .before .before .before .before .before .before .before .before .before .before .before .before .before .before .before .before .choose-place .ensures) (c .before .before .before .before .before .before .before .before .before .before .before .before .before .before .before .before .before .before .before .if1 .taken) (c .before .before .before .before .before .before .before .before .before .before .before .before .before .before .before .move-down .ensures) (c .before .before .before .before .before .before .before .before .before .moved-places .ensures) (c .before .before .before .before .put-file .ensures)
+returns c = change-moved _ _ _ (c .before .before .before .before .before .before .before .before .before .before .before .before .before .before .before .before .before .before .before .before .before .before .before .before .before .before .before .before .before .before .before .before .before .before .pre) (offsets-read 20 _ (c .before .before .before .before .before .before .before .before .before .before .before .before .before .before .before .before .before .before .before .before .before .before .before .before .before .before .before .before .before .read-numbers .ensures ∙ ap (listOf (headerNumber _ false)) (length-replicate {A = ℕ} 20 0))) (lengths-read 20 _ (c .before .before .before .before .before .before .before .before .before .before .before .before .before .before .before .before .before .before .before .before .before .before .before .before .before .read-numbers2 .ensures ∙ ap (listOf (headerNumber _ true)) (length-replicate {A = ℕ} 20 0))) (c .before .before .before .before .before .before .before .before .before .before .before .before .before .before .before .before .before .before .before .before .before .before .before .new-part .ensures) (there-is (c .before .before .before .before .before .before .before .before .before .before .before .before .before .before .before .before .before .before .before .before .before .before .before .before .before .before .before .before .before .before .before .before .before .before .args .present) (now (c .before .before .before .before .before .before .before .before .before .before .before .before .before .before .before .before .before .before .before .before .before .before .before .before .before .before .before .before .before .before .before .before .before .before .args .new))) (c .before .before .before .before .before .before .before .before .before .before .before .before .before .before .before .before .before .before .before .before .choose-place .ensures) (c .before .before .before .before .before .before .before .before .before .before .before .before .before .before .before .before .before .before .before .if1 .taken) (c .before .before .before .before .before .before .before .before .before .before .before .before .before .before .before .move-down .ensures) (c .before .before .before .before .before .before .before .before .before .moved-places .ensures) (c .before .before .before .before .put-file .ensures)
 
 same-length-2 : tie.Need-same-length-2
 same-length-2 c = search needs
 
 returns-2 : tie.Need-returns-2
-returns-2 c = change-still _ _ _ (c .before .before .before .before .before .before .before .before .before .before .before .before .before .before .before .before .before .before .before .before .before .before .before .pre) (offsets-read 20 _ (c .before .before .before .before .before .before .before .before .before .before .before .before .before .before .before .before .before .before .read-numbers .ensures ∙ ap (listOf (numberAt _ false)) (length-replicate {A = ℕ} 20 0))) (lengths-read 20 _ (c .before .before .before .before .before .before .before .before .before .before .before .before .before .before .read-numbers2 .ensures ∙ ap (listOf (numberAt _ true)) (length-replicate {A = ℕ} 20 0))) (c .before .before .before .before .before .before .before .before .before .before .before .before .new-part .ensures) (there-is (c .before .before .before .before .before .before .before .before .before .before .before .before .before .before .before .before .before .before .before .before .before .before .before .args .present) (now (c .before .before .before .before .before .before .before .before .before .before .before .before .before .before .before .before .before .before .before .before .before .before .before .args .new))) (c .before .before .before .before .before .before .before .before .before .choose-place .ensures) (c .before .before .before .before .before .before .before .before .if1 .left) (c .before .before .before .before .put-file2 .ensures)
+returns-2 c = change-still _ _ _ (c .before .before .before .before .before .before .before .before .before .before .before .before .before .before .before .before .before .before .before .before .before .before .before .pre) (offsets-read 20 _ (c .before .before .before .before .before .before .before .before .before .before .before .before .before .before .before .before .before .before .read-numbers .ensures ∙ ap (listOf (headerNumber _ false)) (length-replicate {A = ℕ} 20 0))) (lengths-read 20 _ (c .before .before .before .before .before .before .before .before .before .before .before .before .before .before .read-numbers2 .ensures ∙ ap (listOf (headerNumber _ true)) (length-replicate {A = ℕ} 20 0))) (c .before .before .before .before .before .before .before .before .before .before .before .before .new-part .ensures) (there-is (c .before .before .before .before .before .before .before .before .before .before .before .before .before .before .before .before .before .before .before .before .before .before .before .args .present) (now (c .before .before .before .before .before .before .before .before .before .before .before .before .before .before .before .before .before .before .before .before .before .before .before .args .new))) (c .before .before .before .before .before .before .before .before .before .choose-place .ensures) (c .before .before .before .before .before .before .before .before .if1 .left) (c .before .before .before .before .put-file2 .ensures)
 
 pub put-change-spec : {M : Type 1} → statement M
 put-change-spec =

@@ -4,7 +4,7 @@ use mathlib.Core.Path.{sym, ap, _∙_}
 use borrow.Author.Needs.{needs}
 use lib.ListN.{length-replicate}
 use Rattle.drawer_layout.specs.Places.{listOf}
-use Rattle.drawer_held.specs.Drawer.{numberAt}
+use Rattle.drawer_held.specs.Drawer.{headerNumber}
 use mathlib.Core.Bool.{true, false}
 use Rattle.drawer_held.proofs.Laws.{fault-long, fault-short, fault-count, fault-laid, offsets-read, lengths-read}
 use Rattle.drawer_held.proofs.drawer_fault.Statement.{statement}
@@ -44,10 +44,10 @@ stand-apart-requires : tie.Need-stand-apart-requires
 stand-apart-requires c κs = search needs
 
 returns-4 : tie.Need-returns-4
-returns-4 c = fault-laid _ (c .before .before .before .before .before .before .before .before .before .before .before .before .before .if1 .left) (c .before .before .before .before .before .before .before .before .before .before .before .before .if2 .left) (c .before .before .before .before .before .before .before .before .before .before .before .word-at .ensures) (c .before .before .before .before .before .before .before .before .before .before .if3 .left) (offsets-read 20 _ (c .before .before .before .before .before .before .before .before .read-numbers .ensures ∙ ap (listOf (numberAt _ false)) (length-replicate {A = ℕ} 20 0))) (lengths-read 20 _ (c .before .before .before .before .before .read-numbers2 .ensures ∙ ap (listOf (numberAt _ true)) (length-replicate {A = ℕ} 20 0))) (sym (c .if4 .taken) ∙ c .before .stand-apart .ensures)
+returns-4 c = fault-laid _ (c .before .before .before .before .before .before .before .before .before .before .before .before .before .if1 .left) (c .before .before .before .before .before .before .before .before .before .before .before .before .if2 .left) (c .before .before .before .before .before .before .before .before .before .before .before .word-at .ensures) (c .before .before .before .before .before .before .before .before .before .before .if3 .left) (offsets-read 20 _ (c .before .before .before .before .before .before .before .before .read-numbers .ensures ∙ ap (listOf (headerNumber _ false)) (length-replicate {A = ℕ} 20 0))) (lengths-read 20 _ (c .before .before .before .before .before .read-numbers2 .ensures ∙ ap (listOf (headerNumber _ true)) (length-replicate {A = ℕ} 20 0))) (sym (c .if4 .taken) ∙ c .before .stand-apart .ensures)
 
 returns-5 : tie.Need-returns-5
-returns-5 c = fault-laid _ (c .before .before .before .before .before .before .before .before .before .before .before .before .before .if1 .left) (c .before .before .before .before .before .before .before .before .before .before .before .before .if2 .left) (c .before .before .before .before .before .before .before .before .before .before .before .word-at .ensures) (c .before .before .before .before .before .before .before .before .before .before .if3 .left) (offsets-read 20 _ (c .before .before .before .before .before .before .before .before .read-numbers .ensures ∙ ap (listOf (numberAt _ false)) (length-replicate {A = ℕ} 20 0))) (lengths-read 20 _ (c .before .before .before .before .before .read-numbers2 .ensures ∙ ap (listOf (numberAt _ true)) (length-replicate {A = ℕ} 20 0))) (sym (c .if4 .left) ∙ c .before .stand-apart .ensures)
+returns-5 c = fault-laid _ (c .before .before .before .before .before .before .before .before .before .before .before .before .before .if1 .left) (c .before .before .before .before .before .before .before .before .before .before .before .before .if2 .left) (c .before .before .before .before .before .before .before .before .before .before .before .word-at .ensures) (c .before .before .before .before .before .before .before .before .before .before .if3 .left) (offsets-read 20 _ (c .before .before .before .before .before .before .before .before .read-numbers .ensures ∙ ap (listOf (headerNumber _ false)) (length-replicate {A = ℕ} 20 0))) (lengths-read 20 _ (c .before .before .before .before .before .read-numbers2 .ensures ∙ ap (listOf (headerNumber _ true)) (length-replicate {A = ℕ} 20 0))) (sym (c .if4 .left) ∙ c .before .stand-apart .ensures)
 
 pub drawer-fault-spec : {M : Type 1} → statement M
 drawer-fault-spec =

@@ -5,7 +5,7 @@ use native.Mathlib.Omega.{arith}
 use borrow.Author.Needs.{needs}
 use lib.ListN.{length-replicate}
 use Rattle.drawer_layout.specs.Places.{listOf}
-use Rattle.drawer_held.specs.Drawer.{numberAt}
+use Rattle.drawer_held.specs.Drawer.{headerNumber}
 use mathlib.Core.Bool.{true}
 use Rattle.drawer_held.proofs.Laws.{held-none, length-added, lengths-read}
 use Rattle.drawer_held.proofs.length_after.Statement.{statement}
@@ -39,7 +39,7 @@ add-result-2 : tie.Need-add-result-2
 add-result-2 c = search needs
 
 returns : tie.Need-returns
-returns c = length-added _ _ _ (c .before .before .before .before .before .before .before .before .pre) (lengths-read 20 _ (c .before .before .before .before .read-numbers .ensures ∙ ap (listOf (numberAt _ true)) (length-replicate {A = ℕ} 20 0))) (c .before .all-lengths .ensures .0) (c .new-part .ensures)
+returns c = length-added _ _ _ (c .before .before .before .before .before .before .before .before .pre) (lengths-read 20 _ (c .before .before .before .before .read-numbers .ensures ∙ ap (listOf (headerNumber _ true)) (length-replicate {A = ℕ} 20 0))) (c .before .all-lengths .ensures .0) (c .new-part .ensures)
 
 pub length-after-spec : {M : Type 1} → statement M
 length-after-spec =

@@ -6,13 +6,13 @@ use lib.ListN.{length}
 use borrow.Author.Needs.{needs}
 use Rattle.drawer_held.proofs.Laws.{Filled, fill-start, fill-turn, fill-end, number-read}
 use lib.ListN.{length-set}
-use Rattle.drawer_held.specs.Drawer.{numberAt}
+use Rattle.drawer_held.specs.Drawer.{headerNumber}
 use Rattle.drawer_held.proofs.Laws.{first-small}
 use Rattle.drawer_held.proofs.read_numbers.Statement.{statement}
 use Rattle.drawer_held.proofs.read_numbers.Tie as tie
 
 abbrev Inv-loop : tie.InvT-loop
-Inv-loop d lengths out₀ at i₀ out i = (i ≤ length out₀) × (length out ≡ length out₀) × Filled (numberAt d lengths) i out₀ out
+Inv-loop d lengths out₀ at i₀ out i = (i ≤ length out₀) × (length out ≡ length out₀) × Filled (headerNumber d lengths) i out₀ out
 
 abbrev μ-loop : tie.MeasureT-loop
 μ-loop d lengths out₀ at i₀ out i = length out₀ - i

@@ -7,7 +7,7 @@ use borrow.Author.Needs.{needs}
 use Rattle.element_sums.proofs.all_fit.Statement.{statement}
 use Rattle.element_sums.proofs.all_fit.Tie as tie
 use mathlib.Core.Bool.{not}
-use Rattle.rule_cells.specs.Cells.{table, firstFrom, firstOf}
+use Rattle.rule_cells.specs.Cells.{table, firstFrom, firstThat}
 use native.Mathlib.Nat.{sub-zero}
 use Rattle.element_sums.specs.Sums.{recordFits, allFit}
 use Rattle.element_sums.proofs.Laws.{fit-fails, fit-ends}
@@ -16,13 +16,13 @@ use Rattle.rule_cells.proofs.Laws.{search-goes-on}
 -- Assumes nothing.
 
 abbrev Inv-loop : tie.InvT-loop
-Inv-loop s cells width records r₀ r = firstOf (λ (j : ℕ). not (recordFits (table s cells width 0) j)) records ≡ firstFrom (λ (j : ℕ). not (recordFits (table s cells width 0) j)) (records - r) r
+Inv-loop s cells width records r₀ r = firstThat (λ (j : ℕ). not (recordFits (table s cells width 0) j)) records ≡ firstFrom (λ (j : ℕ). not (recordFits (table s cells width 0) j)) (records - r) r
 
 abbrev μ-loop : tie.MeasureT-loop
 μ-loop s cells width records r₀ r = records - r
 
 loop-holds : tie.Need-loop-holds Inv-loop μ-loop
-unfolding firstOf
+unfolding firstThat
 loop-holds c = rw sub-zero
 
 record-fits-requires : tie.Need-record-fits-requires Inv-loop μ-loop

@@ -7,7 +7,7 @@ use borrow.Author.Needs.{needs}
 use Rattle.element_sums.proofs.record_fits.Statement.{statement}
 use Rattle.element_sums.proofs.record_fits.Tie as tie
 use mathlib.Core.Bool.{not}
-use Rattle.rule_cells.specs.Cells.{table, firstFrom, firstOf}
+use Rattle.rule_cells.specs.Cells.{table, firstFrom, firstThat}
 use Rattle.amount.specs.Amount.{isAmountIn}
 use Rattle.element_sums.specs.Sums.{recordFits, firstColumn}
 use Rattle.element_sums.proofs.Laws.{fit-fails, fit-ends}
@@ -16,13 +16,13 @@ use Rattle.rule_cells.proofs.Laws.{search-goes-on}
 -- Assumes nothing.
 
 abbrev Inv-loop : tie.InvT-loop
-Inv-loop s cells width r c₀ c = firstOf (λ (j : ℕ). not (isAmountIn (table s cells width 0) r (firstColumn + j))) 6 ≡ firstFrom (λ (j : ℕ). not (isAmountIn (table s cells width 0) r (firstColumn + j))) (6 - c) c
+Inv-loop s cells width r c₀ c = firstThat (λ (j : ℕ). not (isAmountIn (table s cells width 0) r (firstColumn + j))) 6 ≡ firstFrom (λ (j : ℕ). not (isAmountIn (table s cells width 0) r (firstColumn + j))) (6 - c) c
 
 abbrev μ-loop : tie.MeasureT-loop
 μ-loop s cells width r c₀ c = 6 - c
 
 loop-holds : tie.Need-loop-holds Inv-loop μ-loop
-unfolding firstOf
+unfolding firstThat
 loop-holds c = refl
 
 add-is-amount-in : tie.Need-add-is-amount-in Inv-loop μ-loop

@@ -1,7 +1,7 @@
 -- `file_names::tails` meets its contract: the code's bytes are the document's names, computed.
 use mathlib.Core.Path.{refl}
 use mathlib.Core.List.{flatten}
-use Rattle.table_rows.specs.Ascii.{codes}
+use Rattle.json_bytes.specs.Ascii.{codes}
 use Rattle.file_names.specs.Names.{fileNames, tails}
 use Rattle.file_names.specs.Flat.{allTails}
 use Rattle.file_names.proofs.tails.Statement.{statement}

@@ -2,9 +2,9 @@
 use borrow.Author.Needs.{needs}
 use mathlib.Core.Path.{_≡_, refl, sym, ap, _∙_}
 use Rattle.output.specs.Output.{put}
-use Rattle.table_rows.specs.Ascii.{codes}
+use Rattle.json_bytes.specs.Ascii.{codes}
 use Rattle.file_names.specs.Names.{upToDot}
-use Rattle.gate_names.specs.Names.{contractFiles, contractFile}
+use Rattle.gate_names.specs.Names.{contractFileNames, contractFile}
 use Rattle.gate_names.proofs.Laws.{no-file}
 use Rattle.gate_names.proofs.put_contract_file.Statement.{statement}
 use Rattle.gate_names.proofs.put_contract_file.Tie as tie
@@ -19,7 +19,7 @@ same-length : tie.Need-same-length
 same-length c = search needs
 
 returns : tie.Need-returns
-unfolding codes contractFile contractFiles
+unfolding codes contractFile contractFileNames
 returns c = rw (c .before .before .before .before .before .if1 .taken) (c .before .before .put-text .ensures)
 
 slice-aggregate-put-text-2 : tie.Need-slice-aggregate-put-text-2
@@ -32,7 +32,7 @@ same-length-2 : tie.Need-same-length-2
 same-length-2 c = search needs
 
 returns-2 : tie.Need-returns-2
-unfolding codes contractFile contractFiles
+unfolding codes contractFile contractFileNames
 returns-2 c = rw (c .before .before .before .before .before .if2 .taken) (c .before .before .put-text2 .ensures)
 
 slice-aggregate-put-text-3 : tie.Need-slice-aggregate-put-text-3
@@ -45,7 +45,7 @@ same-length-3 : tie.Need-same-length-3
 same-length-3 c = search needs
 
 returns-3 : tie.Need-returns-3
-unfolding codes contractFile contractFiles
+unfolding codes contractFile contractFileNames
 returns-3 c = rw (c .before .before .before .before .before .if3 .taken) (c .before .before .put-text3 .ensures)
 
 slice-aggregate-put-text-4 : tie.Need-slice-aggregate-put-text-4
@@ -58,7 +58,7 @@ same-length-4 : tie.Need-same-length-4
 same-length-4 c = search needs
 
 returns-4 : tie.Need-returns-4
-unfolding codes contractFile contractFiles
+unfolding codes contractFile contractFileNames
 returns-4 c = rw (c .before .before .before .before .before .if4 .taken) (c .before .before .put-text4 .ensures)
 
 returns-5 : tie.Need-returns-5

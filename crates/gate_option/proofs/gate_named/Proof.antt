@@ -1,6 +1,6 @@
 -- `gate_option::gate_named` meets its contract: the words that were compared decide the definition.
 use borrow.Author.Needs.{needs}
-use Rattle.table_rows.specs.Ascii.{codes}
+use Rattle.json_bytes.specs.Ascii.{codes}
 use Rattle.gate_option.proofs.Laws.{names-baseline, names-contract, names-nothing}
 use Rattle.gate_option.proofs.gate_named.Statement.{statement}
 use Rattle.gate_option.proofs.gate_named.Tie as tie

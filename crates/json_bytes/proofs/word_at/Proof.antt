@@ -5,13 +5,13 @@ use native.Mathlib.Omega.{arith}
 use lib.ListN.{length, drop}
 use native.Mathlib.Nat.{add-zero}
 use borrow.Author.Needs.{needs}
-use Rattle.json_bytes.specs.Reads.{wordAt}
+use Rattle.json_bytes.specs.Reads.{spelledAt}
 use Rattle.json_bytes.proofs.Laws.{word-more, word-stops, word-ends}
 use Rattle.json_bytes.proofs.word_at.Statement.{statement}
 use Rattle.json_bytes.proofs.word_at.Tie as tie
 
 abbrev Inv-loop : tie.InvT-loop
-Inv-loop s at word k₀ k = (k ≤ length word) × (wordAt s at word ≡ wordAt s (at + k) (drop k word))
+Inv-loop s at word k₀ k = (k ≤ length word) × (spelledAt s at word ≡ spelledAt s (at + k) (drop k word))
 
 abbrev μ-loop : tie.MeasureT-loop
 μ-loop s at word k₀ k = length word - k

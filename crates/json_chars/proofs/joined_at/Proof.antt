@@ -2,7 +2,7 @@
 use borrow.Author.Needs.{needs}
 use mathlib.Core.Path.{_≡_, refl, sym, ap, _∙_}
 use native.Mathlib.Omega.{arith}
-use Rattle.json_chars.specs.Step.{joined}
+use Rattle.json_chars.specs.Step.{surrogatesJoined}
 use Rattle.json_bytes.proofs.Laws.{within-from, within-to}
 use Rattle.json_chars.proofs.Laws.{pair-high, pair-low}
 use Rattle.json_chars.proofs.joined_at.Statement.{statement}
@@ -36,14 +36,14 @@ add-t12 : tie.Need-add-t12
 add-t12 c = search needs
 
 returns : tie.Need-returns
-unfolding joined
+unfolding surrogatesJoined
 returns c = rw (← (c .before .before .escaped-at .ensures), sym (c .before .is-pair .ensures) ∙ c .if1 .taken)
 
 add-t6 : tie.Need-add-t6
 add-t6 c = search needs
 
 returns-2 : tie.Need-returns-2
-unfolding joined
+unfolding surrogatesJoined
 returns-2 c = rw (← (c .before .before .escaped-at .ensures), sym (c .before .is-pair .ensures) ∙ c .if1 .left)
 
 pub joined-at-spec : {M : Type 1} → statement M

@@ -2,7 +2,7 @@
 use borrow.Author.Needs.{needs}
 use mathlib.Core.Path.{_≡_, refl, sym, ap, _∙_}
 use native.Mathlib.Omega.{arith}
-use Rattle.json_chars.specs.Step.{joined}
+use Rattle.json_chars.specs.Step.{surrogatesJoined}
 use Rattle.json_chars.proofs.Laws.{low-joined}
 use Rattle.json_chars.proofs.unit_escape_at.Statement.{statement}
 use Rattle.json_chars.proofs.unit_escape_at.Tie as tie
@@ -35,7 +35,7 @@ enum-known-place : tie.Need-enum-known-place
 enum-known-place c = search needs
 
 returns-3 : tie.Need-returns-3
-unfolding joined
+unfolding surrogatesJoined
 returns-3 c = rw (← (c .before .before .before .unit-at .ensures), c .before .place .given .1)
 
 pub unit-escape-at-spec : {M : Type 1} → statement M

@@ -1,7 +1,7 @@
 -- `json_date::digits_at` meets its contract: the second is asked where the first is a digit.
 use borrow.Author.Needs.{needs}
 use mathlib.Core.Path.{sym, _∙_}
-use Rattle.json_date.specs.Date.{digitsAt}
+use Rattle.json_date.specs.Date.{allDigitsAt}
 use Rattle.json_date.proofs.digits_at.Statement.{statement}
 use Rattle.json_date.proofs.digits_at.Tie as tie
 
@@ -27,11 +27,11 @@ is-within-requires-2 : tie.Need-is-within-requires-2
 is-within-requires-2 c κs = search needs
 
 returns : tie.Need-returns
-unfolding digitsAt
+unfolding allDigitsAt
 returns c = rw (sym (c .before .before .before .is-within .ensures) ∙ c .before .before .if1 .taken) (c .is-within2 .ensures)
 
 returns-2 : tie.Need-returns-2
-unfolding digitsAt
+unfolding allDigitsAt
 returns-2 c = rw (sym (c .before .is-within .ensures) ∙ c .if1 .left)
 
 pub digits-at-spec : {M : Type 1} → statement M

@@ -2,7 +2,7 @@
 use borrow.Author.Needs.{needs}
 use mathlib.Core.Path.{_≡_, refl, sym, ap, _∙_}
 use borrow.Author.Tests.{eq-eqb, ne-eqb, lt-ltb, le-ltb, le-leb, lt-leb}
-use Rattle.json_text.specs.Text.{firstOf, wrongHere, none}
+use Rattle.json_text.specs.Text.{firstWrong, wrongHere, none}
 use Rattle.json_text.proofs.Laws.{first-is, first-not}
 use Rattle.json_text.proofs.first_of.Statement.{statement}
 use Rattle.json_text.proofs.first_of.Tie as tie

@@ -4,7 +4,7 @@ use mathlib.Core.Path.{_≡_, sym, _∙_}
 use native.Mathlib.Nat.{sub-zero}
 use native.Mathlib.Omega.{arith}
 use borrow.Author.Needs.{needs}
-use Rattle.rule_cells.specs.Cells.{table, firstFrom, firstOf}
+use Rattle.rule_cells.specs.Cells.{table, firstFrom, firstThat}
 use Rattle.rule_outline.specs.Outline.{heldIn, outlineAt}
 use Rattle.rule_outline.proofs.Laws.{outline-hits, outline-goes-on, outline-ends}
 use Rattle.ordered_outline.specs.Typed.{typeBreaksLookup}
@@ -12,13 +12,13 @@ use Rattle.ordered_outline.proofs.first_breaking.Statement.{statement}
 use Rattle.ordered_outline.proofs.first_breaking.Tie as tie
 
 abbrev Inv-loop : tie.InvT-loop
-Inv-loop s cells width records level task parents u u-cells u-width l sums order r₀ r = outlineAt (table s cells width 0) level (heldIn parents) (firstOf (typeBreaksLookup (table s cells width 0) level task (heldIn parents) (table u u-cells u-width 0) l sums order) records) ≡ outlineAt (table s cells width 0) level (heldIn parents) (firstFrom (typeBreaksLookup (table s cells width 0) level task (heldIn parents) (table u u-cells u-width 0) l sums order) (records - r) r)
+Inv-loop s cells width records level task parents u u-cells u-width l sums order r₀ r = outlineAt (table s cells width 0) level (heldIn parents) (firstThat (typeBreaksLookup (table s cells width 0) level task (heldIn parents) (table u u-cells u-width 0) l sums order) records) ≡ outlineAt (table s cells width 0) level (heldIn parents) (firstFrom (typeBreaksLookup (table s cells width 0) level task (heldIn parents) (table u u-cells u-width 0) l sums order) (records - r) r)
 
 abbrev μ-loop : tie.MeasureT-loop
 μ-loop s cells width records level task parents u u-cells u-width l sums order r₀ r = records - r
 
 loop-holds : tie.Need-loop-holds Inv-loop μ-loop
-unfolding firstOf
+unfolding firstThat
 loop-holds c = rw sub-zero
 
 breaks-type-requires : tie.Need-breaks-type-requires Inv-loop μ-loop

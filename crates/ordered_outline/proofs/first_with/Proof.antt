@@ -4,19 +4,19 @@ use mathlib.Core.Path.{_≡_, sym, _∙_}
 use native.Mathlib.Nat.{sub-zero}
 use native.Mathlib.Omega.{arith}
 use borrow.Author.Needs.{needs}
-use Rattle.rule_cells.specs.Cells.{table, isWord, firstFrom, firstOf}
+use Rattle.rule_cells.specs.Cells.{table, isWord, firstFrom, firstThat}
 use Rattle.rule_cells.proofs.Laws.{search-hits, search-goes-on, search-ends}
 use Rattle.ordered_outline.proofs.first_with.Statement.{statement}
 use Rattle.ordered_outline.proofs.first_with.Tie as tie
 
 abbrev Inv-loop : tie.InvT-loop
-Inv-loop u cells width records field word q₀ q = firstOf (λ (x : ℕ). isWord (table u cells width 0) x field word) records ≡ firstFrom (λ (x : ℕ). isWord (table u cells width 0) x field word) (records - q) q
+Inv-loop u cells width records field word q₀ q = firstThat (λ (x : ℕ). isWord (table u cells width 0) x field word) records ≡ firstFrom (λ (x : ℕ). isWord (table u cells width 0) x field word) (records - q) q
 
 abbrev μ-loop : tie.MeasureT-loop
 μ-loop u cells width records field word q₀ q = records - q
 
 loop-holds : tie.Need-loop-holds Inv-loop μ-loop
-unfolding firstOf
+unfolding firstThat
 loop-holds c = rw sub-zero
 
 is-word-requires : tie.Need-is-word-requires Inv-loop μ-loop

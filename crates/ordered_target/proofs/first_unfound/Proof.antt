@@ -4,20 +4,20 @@ use mathlib.Core.Path.{_≡_, sym, _∙_}
 use native.Mathlib.Nat.{sub-zero}
 use native.Mathlib.Omega.{arith}
 use borrow.Author.Needs.{needs}
-use Rattle.rule_cells.specs.Cells.{table, firstFrom, firstOf}
+use Rattle.rule_cells.specs.Cells.{table, firstFrom, firstThat}
 use Rattle.rule_cells.proofs.Laws.{search-hits, search-goes-on, search-ends}
 use Rattle.ordered_target.specs.Found.{breaksLookup}
 use Rattle.ordered_target.proofs.first_unfound.Statement.{statement}
 use Rattle.ordered_target.proofs.first_unfound.Tie as tie
 
 abbrev Inv-loop : tie.InvT-loop
-Inv-loop s cells width records t u u-cells u-width l sums order places texts r₀ r = firstOf (breaksLookup (table s cells width 0) (t .k) (t .when) (table u u-cells u-width 0) l sums order places texts) records ≡ firstFrom (breaksLookup (table s cells width 0) (t .k) (t .when) (table u u-cells u-width 0) l sums order places texts) (records - r) r
+Inv-loop s cells width records t u u-cells u-width l sums order places texts r₀ r = firstThat (breaksLookup (table s cells width 0) (t .k) (t .when) (table u u-cells u-width 0) l sums order places texts) records ≡ firstFrom (breaksLookup (table s cells width 0) (t .k) (t .when) (table u u-cells u-width 0) l sums order places texts) (records - r) r
 
 abbrev μ-loop : tie.MeasureT-loop
 μ-loop s cells width records t u u-cells u-width l sums order places texts r₀ r = records - r
 
 loop-holds : tie.Need-loop-holds Inv-loop μ-loop
-unfolding firstOf
+unfolding firstThat
 loop-holds c = rw sub-zero
 
 breaks-lookup-requires : tie.Need-breaks-lookup-requires Inv-loop μ-loop

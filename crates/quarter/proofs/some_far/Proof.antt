@@ -7,20 +7,20 @@ use borrow.Author.Needs.{needs}
 use Rattle.quarter.proofs.some_far.Statement.{statement}
 use Rattle.quarter.proofs.some_far.Tie as tie
 use Rattle.exact_sums.specs.Sums.{wholeAt}
-use Rattle.rule_cells.specs.Cells.{firstFrom, firstOf}
+use Rattle.rule_cells.specs.Cells.{firstFrom, firstThat}
 use Rattle.rule_cells.proofs.Laws.{search-goes-on}
 use Rattle.quarter.specs.Code.{farFrom, someFar}
 use Rattle.quarter.proofs.Totals.{some-breaks, none-breaks}
 use mir.Facts.{toZ-ofZ}
 
 abbrev Inv-loop : tie.InvT-loop
-Inv-loop limit totals i₀ i = firstOf (λ (j : ℕ). farFrom limit (wholeAt totals j)) 24 ≡ firstFrom (λ (j : ℕ). farFrom limit (wholeAt totals j)) (24 - i) i
+Inv-loop limit totals i₀ i = firstThat (λ (j : ℕ). farFrom limit (wholeAt totals j)) 24 ≡ firstFrom (λ (j : ℕ). farFrom limit (wholeAt totals j)) (24 - i) i
 
 abbrev μ-loop : tie.MeasureT-loop
 μ-loop limit totals i₀ i = 24 - i
 
 loop-holds : tie.Need-loop-holds Inv-loop μ-loop
-unfolding firstOf
+unfolding firstThat
 loop-holds c = refl
 
 mul-x : tie.Need-mul-x Inv-loop μ-loop

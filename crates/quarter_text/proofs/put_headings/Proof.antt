@@ -3,7 +3,7 @@
 use Prim.Native.Nat.{_-_}
 use borrow.Author.Needs.{needs}
 use Rattle.quarter_text.proofs.Puts.{headings-put}
-use Rattle.table_rows.specs.Ascii.{codes}
+use Rattle.json_bytes.specs.Ascii.{codes}
 use Rattle.quarter_text.proofs.put_headings.Statement.{statement}
 use Rattle.quarter_text.proofs.put_headings.Tie as tie
 

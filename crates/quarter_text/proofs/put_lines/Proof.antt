@@ -3,7 +3,7 @@
 use Prim.Native.Nat.{_-_}
 use borrow.Author.Needs.{needs}
 use Rattle.quarter_text.proofs.Puts.{lines-put}
-use Rattle.table_rows.specs.Ascii.{codes}
+use Rattle.json_bytes.specs.Ascii.{codes}
 use Rattle.quarter_text.proofs.put_lines.Statement.{statement}
 use Rattle.quarter_text.proofs.put_lines.Tie as tie
 

@@ -1,7 +1,7 @@
 -- `quarter_text::put_pair` meets its contract: one cell behind the other.
 -- Assumes nothing.
 use borrow.Author.Needs.{needs}
-use Rattle.table_rows.specs.Ascii.{codes}
+use Rattle.json_bytes.specs.Ascii.{codes}
 use Rattle.quarter_text.proofs.Puts.{pair-put}
 use Rattle.quarter_text.proofs.put_pair.Statement.{statement}
 use Rattle.quarter_text.proofs.put_pair.Tie as tie

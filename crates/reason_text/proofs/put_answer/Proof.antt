@@ -1,7 +1,7 @@
 -- `reason_text::put_answer` meets its contract: the text of a judgement.
 use borrow.Author.Needs.{needs}
 use denote.Ref.{now}
-use Rattle.table_rows.specs.Ascii.{codes}
+use Rattle.json_bytes.specs.Ascii.{codes}
 use Rattle.mark_numbers.specs.Marks.{marksIn}
 use Rattle.reason_text.proofs.Whole.{refused-put, judged-put}
 use Rattle.reason_text.proofs.put_answer.Statement.{statement}

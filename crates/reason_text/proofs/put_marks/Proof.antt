@@ -1,6 +1,6 @@
 -- `reason_text::put_marks` meets its contract: one text behind the other.
 use borrow.Author.Needs.{needs}
-use Rattle.table_rows.specs.Ascii.{codes}
+use Rattle.json_bytes.specs.Ascii.{codes}
 use Rattle.reason_text.proofs.Whole.{marks-put}
 use Rattle.reason_text.proofs.put_marks.Statement.{statement}
 use Rattle.reason_text.proofs.put_marks.Tie as tie

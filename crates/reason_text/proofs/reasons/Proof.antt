@@ -5,7 +5,7 @@ use native.Mathlib.Omega.{arith}
 use lib.ListN.{length-replicate}
 use lib.Seq.{length-take-le}
 use borrow.Author.Needs.{needs}
-use Rattle.table_rows.specs.Ascii.{codes}
+use Rattle.json_bytes.specs.Ascii.{codes}
 use Rattle.reason_text.proofs.Whole.{short-stands, text-stands}
 use Rattle.reason_text.proofs.reasons.Statement.{statement}
 use Rattle.reason_text.proofs.reasons.Tie as tie

@@ -4,7 +4,7 @@ use mathlib.Core.Path.{sym}
 use lib.ListN.{length-replicate}
 use borrow.Author.Needs.{needs}
 use denote.Ref.{now}
-use Rattle.table_rows.specs.Ascii.{codes}
+use Rattle.json_bytes.specs.Ascii.{codes}
 use Rattle.reasons.proofs.Laws.{too-long, text-read}
 use Rattle.reasons.proofs.put_text.Statement.{statement}
 use Rattle.reasons.proofs.put_text.Tie as tie

@@ -1,7 +1,7 @@
 -- `report::put_board` meets its contract: three texts, one behind the other.
 -- Assumes nothing.
 use borrow.Author.Needs.{needs}
-use Rattle.table_rows.specs.Ascii.{codes}
+use Rattle.json_bytes.specs.Ascii.{codes}
 use Rattle.report.proofs.Puts.{board-put}
 use Rattle.report.proofs.put_board.Statement.{statement}
 use Rattle.report.proofs.put_board.Tie as tie

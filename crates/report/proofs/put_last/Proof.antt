@@ -1,7 +1,7 @@
 -- `report::put_last` meets its contract: the count decides which line it is.
 -- Assumes nothing.
 use borrow.Author.Needs.{needs}
-use Rattle.table_rows.specs.Ascii.{codes}
+use Rattle.json_bytes.specs.Ascii.{codes}
 use Rattle.report.proofs.Puts.{accepted-put, refused-put}
 use Rattle.report.proofs.put_last.Statement.{statement}
 use Rattle.report.proofs.put_last.Tie as tie

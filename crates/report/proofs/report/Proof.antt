@@ -3,7 +3,7 @@
 use native.Mathlib.Omega.{arith}
 use borrow.Author.Needs.{needs}
 use denote.Ref.{now}
-use Rattle.table_rows.specs.Ascii.{codes}
+use Rattle.json_bytes.specs.Ascii.{codes}
 use Rattle.mark_numbers.specs.Marks.{marksIn}
 use Rattle.mark_numbers.proofs.Laws.{lists-wrong, lists-right}
 use Rattle.report.proofs.Lengths.{report-length}

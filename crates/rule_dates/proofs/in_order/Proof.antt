@@ -4,20 +4,20 @@ use mathlib.Core.Path.{_≡_, sym, _∙_}
 use native.Mathlib.Omega.{arith}
 use Prim.Native.Nat.{_-_}
 use native.Mathlib.Nat.{sub-zero}
-use Rattle.rule_cells.specs.Cells.{table, firstFrom, firstOf}
+use Rattle.rule_cells.specs.Cells.{table, firstFrom, firstThat}
 use Rattle.rule_cells.proofs.Laws.{search-hits, search-goes-on, search-ends}
-use Rattle.rule_dates.specs.Dates.{breaksOrder, inOrder}
+use Rattle.rule_dates.specs.Dates.{breaksOrder, datesInOrderRule}
 use Rattle.rule_dates.proofs.in_order.Statement.{statement}
 use Rattle.rule_dates.proofs.in_order.Tie as tie
 
 abbrev Inv-loop : tie.InvT-loop
-Inv-loop s cells width records first second r₀ r = inOrder (table s cells width records) first second ≡ firstFrom (breaksOrder (table s cells width 0) first second) (records - r) r
+Inv-loop s cells width records first second r₀ r = datesInOrderRule (table s cells width records) first second ≡ firstFrom (breaksOrder (table s cells width 0) first second) (records - r) r
 
 abbrev μ-loop : tie.MeasureT-loop
 μ-loop s cells width records first second r₀ r = records - r
 
 loop-holds : tie.Need-loop-holds Inv-loop μ-loop
-unfolding inOrder firstOf
+unfolding datesInOrderRule firstThat
 loop-holds c = rw sub-zero
 
 breaks-order-requires : tie.Need-breaks-order-requires Inv-loop μ-loop

@@ -4,20 +4,20 @@ use Prim.Native.Nat.{_-_}
 use mathlib.Core.Path.{_≡_, sym, _∙_}
 use native.Mathlib.Nat.{sub-zero}
 use native.Mathlib.Omega.{arith}
-use Rattle.rule_cells.specs.Cells.{table, firstFrom, firstOf}
+use Rattle.rule_cells.specs.Cells.{table, firstFrom, firstThat}
 use Rattle.rule_cells.proofs.Laws.{search-hits, search-goes-on, search-ends}
 use Rattle.rule_hours.specs.Hours.{breaks}
 use Rattle.rule_hours.proofs.first_broken.Statement.{statement}
 use Rattle.rule_hours.proofs.first_broken.Tie as tie
 
 abbrev Inv-loop : tie.InvT-loop
-Inv-loop s cells width records from to shape r₀ r = firstOf (breaks shape (table s cells width 0) from to) records ≡ firstFrom (breaks shape (table s cells width 0) from to) (records - r) r
+Inv-loop s cells width records from to shape r₀ r = firstThat (breaks shape (table s cells width 0) from to) records ≡ firstFrom (breaks shape (table s cells width 0) from to) (records - r) r
 
 abbrev μ-loop : tie.MeasureT-loop
 μ-loop s cells width records from to shape r₀ r = records - r
 
 loop-holds : tie.Need-loop-holds Inv-loop μ-loop
-unfolding firstOf
+unfolding firstThat
 loop-holds c = rw sub-zero
 
 is-broken-requires : tie.Need-is-broken-requires Inv-loop μ-loop

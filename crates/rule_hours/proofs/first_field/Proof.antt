@@ -4,20 +4,20 @@ use Prim.Native.Nat.{_-_}
 use mathlib.Core.Path.{_≡_, refl, sym, _∙_}
 use native.Mathlib.Omega.{arith}
 use Rattle.rule_cells.specs.Cells.{table}
-use Rattle.rule_hours.specs.Hours.{fieldFrom, firstField}
+use Rattle.rule_hours.specs.Hours.{fieldFrom, firstFieldThat}
 use Rattle.rule_hours.specs.Asked.{passes}
 use Rattle.rule_hours.proofs.Laws.{field-hits, field-goes-on, field-ends}
 use Rattle.rule_hours.proofs.first_field.Statement.{statement}
 use Rattle.rule_hours.proofs.first_field.Tie as tie
 
 abbrev Inv-loop : tie.InvT-loop
-Inv-loop s cells width r from to ask k₀ k = firstField (passes ask (table s cells width 0) r) from to ≡ fieldFrom (passes ask (table s cells width 0) r) to (to - k) k
+Inv-loop s cells width r from to ask k₀ k = firstFieldThat (passes ask (table s cells width 0) r) from to ≡ fieldFrom (passes ask (table s cells width 0) r) to (to - k) k
 
 abbrev μ-loop : tie.MeasureT-loop
 μ-loop s cells width r from to ask k₀ k = to - k
 
 loop-holds : tie.Need-loop-holds Inv-loop μ-loop
-unfolding firstField
+unfolding firstFieldThat
 loop-holds c = refl
 
 is-so-requires : tie.Need-is-so-requires Inv-loop μ-loop

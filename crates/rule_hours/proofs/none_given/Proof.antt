@@ -1,6 +1,6 @@
 -- `rule_hours::none_given` meets its contract: its shape is the one that its definition says.
 use borrow.Author.Needs.{needs}
-use Rattle.rule_hours.specs.Hours.{noneGiven, breaks}
+use Rattle.rule_hours.specs.Hours.{noneGivenRule, breaks}
 use Rattle.rule_hours.proofs.none_given.Statement.{statement}
 use Rattle.rule_hours.proofs.none_given.Tie as tie
 
@@ -11,7 +11,7 @@ first-broken-requires : tie.Need-first-broken-requires
 first-broken-requires c κs = search needs
 
 returns : tie.Need-returns
-unfolding noneGiven breaks
+unfolding noneGivenRule breaks
 returns c = c .first-broken .ensures
 
 pub none-given-spec : {M : Type 1} → statement M

@@ -1,6 +1,6 @@
 -- `rule_hours::together` meets its contract: its shape is the one that its definition says.
 use borrow.Author.Needs.{needs}
-use Rattle.rule_hours.specs.Hours.{together, breaks}
+use Rattle.rule_hours.specs.Hours.{togetherRule, breaks}
 use Rattle.rule_hours.proofs.together.Statement.{statement}
 use Rattle.rule_hours.proofs.together.Tie as tie
 
@@ -11,7 +11,7 @@ first-broken-requires : tie.Need-first-broken-requires
 first-broken-requires c κs = search needs
 
 returns : tie.Need-returns
-unfolding together breaks
+unfolding togetherRule breaks
 returns c = c .first-broken .ensures
 
 pub together-spec : {M : Type 1} → statement M

@@ -3,14 +3,14 @@ use borrow.Author.Needs.{needs}
 use mathlib.Core.Path.{_≡_, sym, _∙_}
 use native.Mathlib.Omega.{arith}
 use Prim.Native.Nat.{_-_}
-use Rattle.rule_cells.specs.Cells.{table, firstOf}
+use Rattle.rule_cells.specs.Cells.{table, firstThat}
 use Rattle.rule_key.specs.Key.{repeats}
 use Rattle.rule_key.proofs.Compare.{ruleFrom, earliest-any, rule-starts, rule-hits, rule-goes-on, rule-ends}
 use Rattle.rule_key.proofs.key_rule.Statement.{statement}
 use Rattle.rule_key.proofs.key_rule.Tie as tie
 
 abbrev Inv-loop : tie.InvT-loop
-Inv-loop s cells width records key i₀ i = firstOf (repeats (table s cells width records) key) records ≡ ruleFrom (table s cells width records) key i
+Inv-loop s cells width records key i₀ i = firstThat (repeats (table s cells width records) key) records ≡ ruleFrom (table s cells width records) key i
 
 abbrev μ-loop : tie.MeasureT-loop
 μ-loop s cells width records key i₀ i = records - i

@@ -8,7 +8,7 @@ use Rattle.rule_cells.proofs.Laws.{search-hits, search-goes-on, search-ends}
 use Rattle.json_chars.specs.Chars.{charsAt}
 use Rattle.json_same.specs.Same.{sameAs}
 use Rattle.json_same.specs.declared.Case.the-variants.{Folded}
-use Rattle.rule_cells.specs.Cells.{table, textOf, firstFrom, firstOf}
+use Rattle.rule_cells.specs.Cells.{table, textOf, firstFrom, firstThat}
 use Rattle.rule_target.specs.Target.{targetOf}
 use Rattle.rule_target.proofs.Laws.{target-told}
 use Rattle.rule_target.proofs.target_of.Statement.{statement}
@@ -21,7 +21,7 @@ abbrev μ-loop : tie.MeasureT-loop
 μ-loop s at u cells width records m q₀ q = records - q
 
 loop-holds : tie.Need-loop-holds Inv-loop μ-loop
-unfolding targetOf firstOf
+unfolding targetOf firstThat
 loop-holds c = rw sub-zero
 
 start-of-requires : tie.Need-start-of-requires Inv-loop μ-loop

@@ -5,7 +5,7 @@ use native.Mathlib.Omega.{arith}
 use Prim.Native.Nat.{ℕ, _-_, _≤_}
 use native.Mathlib.Nat.{sub-zero}
 use Rattle.rule_cells.proofs.Laws.{search-hits, search-goes-on, search-ends}
-use Rattle.rule_cells.specs.Cells.{table, firstFrom, firstOf}
+use Rattle.rule_cells.specs.Cells.{table, firstFrom, firstThat}
 use Rattle.rule_target.specs.Target.{breaksTarget, targetRule}
 use Rattle.rule_target.proofs.target_rule.Statement.{statement}
 use Rattle.rule_target.proofs.target_rule.Tie as tie
@@ -17,7 +17,7 @@ abbrev μ-loop : tie.MeasureT-loop
 μ-loop s cells width records t u u-cells u-width u-records places texts r₀ r = records - r
 
 loop-holds : tie.Need-loop-holds Inv-loop μ-loop
-unfolding targetRule firstOf
+unfolding targetRule firstThat
 loop-holds c = rw sub-zero
 
 breaks-target-requires : tie.Need-breaks-target-requires Inv-loop μ-loop

@@ -6,7 +6,7 @@ use lib.ListN.{length-set}
 use denote.Ref.{now}
 use borrow.Author.Needs.{needs}
 use borrow.Author.Tests.{le-ltb}
-use Rattle.standing.specs.Standing.{placed}
+use Rattle.standing.specs.Standing.{standingWith}
 use Rattle.standing.proofs.Laws.{placed-fits}
 use Rattle.standing.proofs.place.Statement.{statement}
 use Rattle.standing.proofs.place.Tie as tie
@@ -42,7 +42,7 @@ same-length : tie.Need-same-length
 same-length c = search needs
 
 returns : tie.Need-returns
-unfolding placed
+unfolding standingWith
 returns c = sym (placed-fits (now (c .before .args .stand)) (c .before .args .k) (c .before .args .which) (c .before .args .from) (c .before .args .to) (c .if1 .taken))
 
 returns-2 : tie.Need-returns-2

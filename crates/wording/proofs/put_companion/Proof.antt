@@ -1,5 +1,5 @@
 -- `wording::put_companion` meets its contract.
-use Rattle.table_rows.specs.Ascii.{codes}
+use Rattle.json_bytes.specs.Ascii.{codes}
 use Rattle.wording.proofs.Filling.{none-put, companion-put}
 use borrow.Author.Needs.{needs}
 use Rattle.wording.proofs.put_companion.Statement.{statement}

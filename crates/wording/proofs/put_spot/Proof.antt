@@ -1,5 +1,5 @@
 -- `wording::put_spot` meets its contract: one text behind the other.
-use Rattle.table_rows.specs.Ascii.{codes}
+use Rattle.json_bytes.specs.Ascii.{codes}
 use Rattle.wording.proofs.Filling.{spot-put}
 use borrow.Author.Needs.{needs}
 use Rattle.wording.proofs.put_spot.Statement.{statement}

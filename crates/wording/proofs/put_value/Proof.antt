@@ -1,5 +1,5 @@
 -- `wording::put_value` meets its contract: no value, one that is cut, and a whole one.
-use Rattle.table_rows.specs.Ascii.{codes}
+use Rattle.json_bytes.specs.Ascii.{codes}
 use Rattle.wording.proofs.Filling.{null-put, cut-put, whole-put}
 use borrow.Author.Needs.{needs}
 use Rattle.wording.proofs.put_value.Statement.{statement}

@@ -1,4 +1,4 @@
--- A name as bytes: every name of document 002 is ASCII, where a character's number is its one byte.
+-- A word as bytes: the literals of JSON and every name of the documents are ASCII, where a character's number is its one byte.
 use Prim.Native.Nat.{ℕ}
 use Prim.Native.Char.{code}
 use Prim.Native.String.{String, [] as end, _∷_ as _then_}
