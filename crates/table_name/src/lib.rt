@@ -4,7 +4,7 @@ ghost use mathlib.Core.Path.{_≡_};
 ghost use Prim.Native.Nat.{_<_};
 ghost use lib.ListN.{length};
 ghost use Rattle.json_chars.specs.Chars.{charsAt};
-ghost use mathlib.Core.Bool.{true, false, cond};
+ghost use mathlib.Core.Bool.{cond};
 ghost use lib.Dec.{ltb};
 ghost use Rattle.json_same.specs.Same.{sameAs, sameList};
 ghost use Rattle.parts.specs.Part.{partOf};
@@ -16,7 +16,6 @@ use json_bytes::skip_spaces;
 use json_chars::Step;
 use json_chars::step_at;
 use json_same::Case;
-use json_same::is_plain;
 use json_same::text_is;
 use json_text::TextType;
 use json_text::plain_end;
@@ -40,39 +39,8 @@ pub enum Next {
     Neither { at: usize },
 }
 
-// Whether the first byte of a name already tells it from the string at `at`: true only where the two
-// differ. A byte that begins an escape or a sequence tells nothing.
-fn is_apart(s: &[u8], at: usize, names: &[u8], from: usize, to: usize) -> bool
-    ensures { λ r. ⌜ (r ≡ true → sameAs Case.Kept (charsAt (now (s .entry)) at) (partOf (now (names .entry)) from to) ≡ false) ⌝ }
-{
-    if s.len() <= at {
-        return false;
-    }
-    if byte_at(s, at) != b'"' {
-        return false;
-    }
-    if to <= from {
-        return false;
-    }
-    if names.len() < to {
-        return false;
-    }
-    let b = byte_at(s, at + 1);
-    if is_plain(wide(b)) {
-        return b != names[from];
-    }
-    false
-}
-
-fn wide(b: u8) -> u32
-    ensures { λ r. ⌜ r ≡ b ⌝ }
-{
-    b as u32
-}
-
 // The place among the table's `count` fields of the one that the string at `at` names; `count` for
-// none. Most names are told apart by their first byte, and a comparison stops at the first character
-// that differs.
+// none. A comparison stops at the first character that differs.
 fn index_of(s: &[u8], at: usize, rows: &[u32], names: &[u8], count: usize) -> usize
     ensures { λ r. ⌜ r ≡ indexOf (charsAt (now (s .entry)) at) (fieldsFrom (now (rows .entry)) (now (names .entry)) count 0) ⌝ }
 {
@@ -80,13 +48,10 @@ fn index_of(s: &[u8], at: usize, rows: &[u32], names: &[u8], count: usize) -> us
     while k < count {
         let from = name_start(rows, k);
         let to = name_end(rows, k);
-        if is_apart(s, at, names, from, to) {
-            k += 1;
-        } else if text_is(s, at, part(names, from, to), Case::Kept) {
+        if text_is(s, at, part(names, from, to), Case::Kept) {
             return k;
-        } else {
-            k += 1;
         }
+        k += 1;
     }
     k
 }

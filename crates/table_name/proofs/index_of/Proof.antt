@@ -7,7 +7,7 @@ use native.Mathlib.Nat.{sub-zero, zero-add}
 use Rattle.json_chars.specs.Chars.{charsAt}
 use Rattle.table_rows.specs.Rows.{fieldsFrom}
 use Rattle.table_name.specs.Name.{indexOf}
-use Rattle.table_name.proofs.Laws.{name-told, name-apart, index-more, index-found, index-none}
+use Rattle.table_name.proofs.Laws.{name-told, index-more, index-found, index-none}
 use Rattle.table_name.proofs.index_of.Statement.{statement}
 use Rattle.table_name.proofs.index_of.Tie as tie
 
@@ -26,8 +26,14 @@ name-start-requires c κs = search needs
 name-end-requires : tie.Need-name-end-requires Inv-loop μ-loop
 name-end-requires c κs = search needs
 
-is-apart-requires : tie.Need-is-apart-requires Inv-loop μ-loop
-is-apart-requires c κs = search needs
+part-requires : tie.Need-part-requires Inv-loop μ-loop
+part-requires c κs = search needs
+
+text-is-requires : tie.Need-text-is-requires Inv-loop μ-loop
+text-is-requires c κs = search needs
+
+returns : tie.Need-returns Inv-loop μ-loop
+returns c = sym (c .before .before .before .before .before .before .loop .inv .1 ∙ index-found _ _ _ _ _ (c .before .before .before .before .before .loop-test .taken) (name-told _ _ 0 _ _ _ _ _ _ (c .before .before .before .before .name-start .ensures) (c .before .before .before .name-end .ensures) (c .before .before .part .ensures) (c .before .text-is .ensures) ∙ c .if1 .taken))
 
 add-k : tie.Need-add-k Inv-loop μ-loop
 add-k c = omega arith
@@ -36,25 +42,7 @@ loop-less : tie.Need-loop-less Inv-loop μ-loop
 loop-less c = omega arith
 
 loop-again : tie.Need-loop-again Inv-loop μ-loop
-loop-again c = (omega arith, c .before .before .before .before .before .loop .inv .1 ∙ index-more _ _ _ _ _ (c .before .before .before .before .loop-test .taken) (name-apart _ _ 0 _ _ _ _ (c .before .before .before .name-start .ensures) (c .before .before .name-end .ensures) (c .before .is-apart .ensures (c .if1 .taken))))
-
-part-requires : tie.Need-part-requires Inv-loop μ-loop
-part-requires c κs = search needs
-
-text-is-requires : tie.Need-text-is-requires Inv-loop μ-loop
-text-is-requires c κs = search needs
-
-returns : tie.Need-returns Inv-loop μ-loop
-returns c = sym (c .before .before .before .before .before .before .before .before .loop .inv .1 ∙ index-found _ _ _ _ _ (c .before .before .before .before .before .before .before .loop-test .taken) (name-told _ _ 0 _ _ _ _ _ _ (c .before .before .before .before .before .before .name-start .ensures) (c .before .before .before .before .before .name-end .ensures) (c .before .before .part .ensures) (c .before .text-is .ensures) ∙ c .if2 .taken))
-
-add-k-2 : tie.Need-add-k-2 Inv-loop μ-loop
-add-k-2 c = omega arith
-
-loop-less-2 : tie.Need-loop-less-2 Inv-loop μ-loop
-loop-less-2 c = omega arith
-
-loop-again-2 : tie.Need-loop-again-2 Inv-loop μ-loop
-loop-again-2 c = (omega arith, c .before .before .before .before .before .before .before .before .loop .inv .1 ∙ index-more _ _ _ _ _ (c .before .before .before .before .before .before .before .loop-test .taken) (name-told _ _ 0 _ _ _ _ _ _ (c .before .before .before .before .before .before .name-start .ensures) (c .before .before .before .before .before .name-end .ensures) (c .before .before .part .ensures) (c .before .text-is .ensures) ∙ c .if2 .left))
+loop-again c = (omega arith, c .before .before .before .before .before .before .loop .inv .1 ∙ index-more _ _ _ _ _ (c .before .before .before .before .before .loop-test .taken) (name-told _ _ 0 _ _ _ _ _ _ (c .before .before .before .before .name-start .ensures) (c .before .before .before .name-end .ensures) (c .before .before .part .ensures) (c .before .text-is .ensures) ∙ c .if1 .left))
 
 returns-2 : tie.Need-returns-2 Inv-loop μ-loop
 returns-2 c = sym (c .before .loop .inv .1 ∙ index-none _ _ _ _ _ (c .loop-test .left))
@@ -68,14 +56,10 @@ index-of-spec =
     loop-holds
     name-start-requires
     name-end-requires
-    is-apart-requires
-    add-k
-    loop-less
-    loop-again
     part-requires
     text-is-requires
     returns
-    add-k-2
-    loop-less-2
-    loop-again-2
+    add-k
+    loop-less
+    loop-again
     returns-2)
