@@ -20,7 +20,7 @@ use Rattle.gate_marks.specs.Marks.{fullMarks}
 use Rattle.gate_calls.specs.Calls.{Answer, answer, changedMarks, judgement, accepted, tried, changeMade}
 use Rattle.gate_calls.proofs.Demand3.{full-same, judged, tried-well, try-is-make}
 use Rattle.either_first.proofs.Files.{changed-below}
-use Rattle.drawer_held.specs.Drawer.{drawerFault, changeFault, drawerAfter, drawerMade}
+use Rattle.drawer_held.specs.Drawer.{drawerFault, drawerChangeFault, drawerAfter, drawerMade}
 use Rattle.drawer_held.proofs.Laws.{drawer-size, change-none}
 use Rattle.drawer_bundles.proofs.Room.{bundle-fits, bundle-small}
 use Rattle.drawer_meaning.proofs.Kept.{files-after, layout-kept, after-length}
@@ -52,7 +52,7 @@ module _ (g : Gate) (d : List ℕ) (fine : drawerFault (g .files) d ≡ 0) where
   judged-as-bundle =
       rw (eq-eqb (drawerFault (g .files) d) 0 fine, judged g bundle is-bundle) (ap (drawerAnswer 0) (sym (full-same g (fileAt bundle) (fileAt d) same-files)))
 
-module _ (g : Gate) (d : List ℕ) (k : ℕ) (f : File) (handed : Marks) (fine : changeFault (g .files) d k f ≡ 0) where
+module _ (g : Gate) (d : List ℕ) (k : ℕ) (f : File) (handed : Marks) (fine : drawerChangeFault (g .files) d k f ≡ 0) where
   pub drawer-fine : drawerFault (g .files) d ≡ 0
   drawer-fine = change-none (g .files) d k f fine .0
 

@@ -16,11 +16,11 @@ use Rattle.gate_marks.specs.Gate.{Gate}
 use Rattle.gate_marks.specs.Marks.{fullMarks}
 use Rattle.gate_calls.specs.Calls.{changedMarks}
 use Rattle.gate_calls.proofs.Demand3.{full-same, after-change}
-use Rattle.drawer_held.specs.Drawer.{drawerFault, changeFault, drawerAfter, drawerMade}
+use Rattle.drawer_held.specs.Drawer.{drawerFault, drawerChangeFault, drawerAfter, drawerMade}
 use Rattle.drawer_held.proofs.Laws.{change-none}
 use Rattle.drawer_meaning.proofs.Kept.{files-after, layout-kept, after-length}
 use Rattle.drawer_calls.specs.Calls.{DrawerAnswer, drawerAnswer, drawerJudged, drawerChanged}
-use Rattle.drawer_calls.specs.Sequence.{DrawerStep, DrawerState, stepped, after}
+use Rattle.drawer_calls.specs.Sequence.{DrawerStep, DrawerState, drawerStepped, afterDrawerSteps}
 use Rattle.drawer_calls.proofs.Lent.{changed-well, changed-not}
 
 -- a drawer, and marks that are those of its files
@@ -30,10 +30,10 @@ pub record Right (g : Gate) (x : DrawerState) : Type 0 where
 
 module _ (g : Gate) where
   -- ---- one change that is made
-  module _ (d : List ℕ) (k : ℕ) (f : File) (fine : changeFault (g .files) d k f ≡ 0) where
+  module _ (d : List ℕ) (k : ℕ) (f : File) (fine : drawerChangeFault (g .files) d k f ≡ 0) where
     pub made-so : drawerMade (g .files) d k f ≡ drawerAfter (g .files) d k f
     unfolding drawerMade
-    made-so = rw (eq-eqb (changeFault (g .files) d k f) 0 fine)
+    made-so = rw (eq-eqb (drawerChangeFault (g .files) d k f) 0 fine)
 
     -- its board is that of a full judgement of the drawer as it now stands, where the handed one was right
     pub right-after : drawerChanged g d k f (fullMarks g (fileAt d)) .marks ≡ fullMarks g (fileAt (drawerMade (g .files) d k f))
@@ -45,10 +45,10 @@ module _ (g : Gate) where
     drawer-again = ap (drawerFault (g .files)) made-so ∙ layout-kept (g .files) d k f fine
 
   -- ---- one that is refused: "with drawer and board untouched"
-  module _ (d : List ℕ) (k : ℕ) (f : File) (handed : Marks) (refused : changeFault (g .files) d k f ≡ 0 → ⊥) where
+  module _ (d : List ℕ) (k : ℕ) (f : File) (handed : Marks) (refused : drawerChangeFault (g .files) d k f ≡ 0 → ⊥) where
     pub drawer-untouched : drawerMade (g .files) d k f ≡ d
     unfolding drawerMade
-    drawer-untouched = rw (ne-eqb (changeFault (g .files) d k f) 0 refused)
+    drawer-untouched = rw (ne-eqb (drawerChangeFault (g .files) d k f) 0 refused)
 
     pub board-untouched : drawerChanged g d k f handed .marks ≡ handed
     board-untouched = ap (λ x. x .marks) (changed-not g d k f handed refused)
@@ -61,9 +61,9 @@ module _ (g : Gate) where
       go true e = so (eqb-true n 0 e)
       go false e = not-so (eqb-false n 0 e)
 
-  pub step-right : (x : DrawerState) (c : DrawerStep) → Right g x → Right g (stepped g x c)
-  unfolding stepped
-  step-right x c r = by-refusal (changeFault (g .files) (x .drawer) (c .file) (c .new))
+  pub step-right : (x : DrawerState) (c : DrawerStep) → Right g x → Right g (drawerStepped g x c)
+  unfolding drawerStepped
+  step-right x c r = by-refusal (drawerChangeFault (g .files) (x .drawer) (c .file) (c .new))
       (λ e. record {
         fine = drawer-again (x .drawer) (c .file) (c .new) e;
         right = ap (λ m. drawerChanged g (x .drawer) (c .file) (c .new) m .marks) (r .right) ∙ right-after (x .drawer) (c .file) (c .new) e;
@@ -73,17 +73,17 @@ module _ (g : Gate) where
         right = board-untouched (x .drawer) (c .file) (c .new) (x .marks) n ∙ r .right ∙ sym (ap (λ s. fullMarks g (fileAt s)) (drawer-untouched (x .drawer) (c .file) (c .new) (x .marks) n));
       })
 
-  pub stays-right : (cs : List DrawerStep) (x : DrawerState) → Right g x → Right g (after g cs x)
-  unfolding after
+  pub stays-right : (cs : List DrawerStep) (x : DrawerState) → Right g x → Right g (afterDrawerSteps g cs x)
+  unfolding afterDrawerSteps
   stays-right [] x r = r
-  stays-right (c ∷ cs) x r = stays-right cs (stepped g x c) (step-right x c r)
+  stays-right (c ∷ cs) x r = stays-right cs (drawerStepped g x c) (step-right x c r)
 
   judged-right : (x : DrawerState) → Right g x → drawerAnswer 0 (x .marks) ≡ drawerJudged g (x .drawer)
   unfolding drawerJudged
   judged-right x r = rw (eq-eqb (drawerFault (g .files) (x .drawer)) 0 (r .fine)) (ap (drawerAnswer 0) (r .right))
 
   -- from a judged drawer on, the board at hand is always that of a full judgement of the drawer at hand
-  pub always-right : (d : List ℕ) → drawerFault (g .files) d ≡ 0 → (cs : List DrawerStep) → Right g (after g cs (record { drawer = d; marks = drawerJudged g d .marks }))
+  pub always-right : (d : List ℕ) → drawerFault (g .files) d ≡ 0 → (cs : List DrawerStep) → Right g (afterDrawerSteps g cs (record { drawer = d; marks = drawerJudged g d .marks }))
   unfolding drawerJudged
   always-right d e cs =
       stays-right cs (record { drawer = d; marks = drawerJudged g d .marks }) (record { fine = e; right = ap (λ x. x .marks) start })
@@ -91,17 +91,17 @@ module _ (g : Gate) where
       start : drawerJudged g d ≡ drawerAnswer 0 (fullMarks g (fileAt d))
       start = rw (eq-eqb (drawerFault (g .files) d) 0 e)
 
-  pub always-judged : (d : List ℕ) → drawerFault (g .files) d ≡ 0 → (cs : List DrawerStep) → drawerAnswer 0 (after g cs (record { drawer = d; marks = drawerJudged g d .marks }) .marks) ≡ drawerJudged g (after g cs (record { drawer = d; marks = drawerJudged g d .marks }) .drawer)
-  always-judged d e cs = judged-right (after g cs (record { drawer = d; marks = drawerJudged g d .marks })) (always-right d e cs)
+  pub always-judged : (d : List ℕ) → drawerFault (g .files) d ≡ 0 → (cs : List DrawerStep) → drawerAnswer 0 (afterDrawerSteps g cs (record { drawer = d; marks = drawerJudged g d .marks }) .marks) ≡ drawerJudged g (afterDrawerSteps g cs (record { drawer = d; marks = drawerJudged g d .marks }) .drawer)
+  always-judged d e cs = judged-right (afterDrawerSteps g cs (record { drawer = d; marks = drawerJudged g d .marks })) (always-right d e cs)
 
   -- a drawer keeps its length
-  step-length : (x : DrawerState) (c : DrawerStep) → length (stepped g x c .drawer) ≡ length (x .drawer)
-  unfolding stepped
-  step-length x c = by-refusal (changeFault (g .files) (x .drawer) (c .file) (c .new))
+  step-length : (x : DrawerState) (c : DrawerStep) → length (drawerStepped g x c .drawer) ≡ length (x .drawer)
+  unfolding drawerStepped
+  step-length x c = by-refusal (drawerChangeFault (g .files) (x .drawer) (c .file) (c .new))
       (λ e. ap length (made-so (x .drawer) (c .file) (c .new) e) ∙ after-length (g .files) (x .drawer) (c .file) (c .new) e)
       (λ n. ap length (drawer-untouched (x .drawer) (c .file) (c .new) (x .marks) n))
 
-  pub same-length : (cs : List DrawerStep) (x : DrawerState) → length (after g cs x .drawer) ≡ length (x .drawer)
-  unfolding after
+  pub same-length : (cs : List DrawerStep) (x : DrawerState) → length (afterDrawerSteps g cs x .drawer) ≡ length (x .drawer)
+  unfolding afterDrawerSteps
   same-length [] x = refl
-  same-length (c ∷ cs) x = same-length cs (stepped g x c) ∙ step-length x c
+  same-length (c ∷ cs) x = same-length cs (drawerStepped g x c) ∙ step-length x c

@@ -90,33 +90,23 @@ module _ (n : ℕ) (desk shared : List ℕ) (k : ℕ) (f : File) (room : ℕ) wh
       }
 
 -- ---- what is seen
-module _ (seen : Seen) where
-  pub own-seen : isOwn seen ≡ true → sees seen ≡ true
-  unfolding isOwn sees
-  own-seen = go seen
-    where
-      go : (s : Seen) → isOwn s ≡ true → sees s ≡ true
-      go Nothing e = e
-      go Own e = refl
-      go Shared e = refl
+pub own-seen : (seen : Seen) → isOwn seen ≡ true → sees seen ≡ true
+unfolding isOwn sees
+own-seen Nothing e = e
+own-seen Own e = refl
+own-seen Shared e = refl
 
-  pub common-seen : isCommon seen ≡ true → sees seen ≡ true
-  unfolding isCommon sees
-  common-seen = go seen
-    where
-      go : (s : Seen) → isCommon s ≡ true → sees s ≡ true
-      go Nothing e = e
-      go Own e = refl
-      go Shared e = refl
+pub common-seen : (seen : Seen) → isCommon seen ≡ true → sees seen ≡ true
+unfolding isCommon sees
+common-seen Nothing e = e
+common-seen Own e = refl
+common-seen Shared e = refl
 
-  seen-own : sees seen ≡ true → isCommon seen ≡ false → isOwn seen ≡ true
-  unfolding isOwn isCommon sees
-  seen-own = go seen
-    where
-      go : (s : Seen) → sees s ≡ true → isCommon s ≡ false → isOwn s ≡ true
-      go Nothing e q = e
-      go Own e q = refl
-      go Shared e q = sym q
+seen-own : (seen : Seen) → sees seen ≡ true → isCommon seen ≡ false → isOwn seen ≡ true
+unfolding isOwn isCommon sees
+seen-own Nothing e q = e
+seen-own Own e q = refl
+seen-own Shared e q = sym q
 
 -- one that it does not see leaves the joined set as it was
 not-joined : (n : ℕ) (desk shared : List ℕ) (seen : Seen) (k : ℕ) (f : File) → sees seen ≡ false → joinedSet (bundleNow n (isOwn seen) desk k f) (bundleNow n (isCommon seen) shared k f) ≡ joinedSet desk shared
@@ -130,19 +120,17 @@ both-tests : {A : Type 0} (t u : Bool) (x y : A) → cond t (cond u x y) y ≡ c
 both-tests true u x y = refl
 both-tests false u x y = refl
 
-module _ (g : Gate) (desk shared : List ℕ) (seen : Seen) (k : ℕ) (f : File) (room : ℕ) where
-  seen-marks : (handed : Marks) → marksSeen g desk shared (sightOf seen k f room) handed ≡ cond (sees seen) (changedMarks g k (changed (joinedSet desk shared) k f) handed) handed
-  unfolding marksSeen joinAfter sightOf sees
-  seen-marks handed = go seen
-    where
-      go : (s : Seen) → marksSeen g desk shared (sightOf s k f room) handed ≡ cond (sees s) (changedMarks g k (changed (joinedSet desk shared) k f) handed) handed
-      go Nothing = refl
-      go Own = refl
-      go Shared = refl
+seen-marks : (g : Gate) (desk shared : List ℕ) (seen : Seen) (k : ℕ) (f : File) (room : ℕ) (handed : Marks) → marksSeen g desk shared (sightOf seen k f room) handed ≡ cond (sees seen) (changedMarks g k (changed (joinedSet desk shared) k f) handed) handed
+unfolding marksSeen joinAfter sightOf sees
+seen-marks g desk shared Nothing k f room handed = refl
+seen-marks g desk shared Own k f room handed = refl
+seen-marks g desk shared Shared k f room handed = refl
 
-  pub answer-is : Taken (g .files) desk shared seen k f room → (handed : Marks) → deskAnswer g desk shared (sightOf seen k f room) handed ≡ deskAnswered (joinFault (g .files) desk shared) (cond (eqb (joinFault (g .files) desk shared) 0 && sees seen) (changedMarks g k (changed (joinedSet desk shared) k f) handed) handed)
-  unfolding deskAnswer answeredBy
-  answer-is c handed = rw (c .refusal, seen-marks handed, both-tests (eqb (joinFault (g .files) desk shared) 0) (sees seen) (changedMarks g k (changed (joinedSet desk shared) k f) handed) handed)
+answer-is : (g : Gate) (desk shared : List ℕ) (seen : Seen) (k : ℕ) (f : File) (room : ℕ) → Taken (g .files) desk shared seen k f room → (handed : Marks)
+    → deskAnswer g desk shared (sightOf seen k f room) handed ≡ deskAnswered (joinFault (g .files) desk shared) (cond (eqb (joinFault (g .files) desk shared) 0 && sees seen) (changedMarks g k (changed (joinedSet desk shared) k f) handed) handed)
+unfolding deskAnswer answeredBy
+answer-is g desk shared seen k f room c handed =
+    rw (c .refusal, seen-marks g desk shared seen k f room handed, both-tests (eqb (joinFault (g .files) desk shared) 0) (sees seen) (changedMarks g k (changed (joinedSet desk shared) k f) handed) handed)
 
 -- ---- two changes, one after the other
 abbrev boardOf : Gate → List ℕ → List ℕ → Bool → ℕ → File → Marks → Marks

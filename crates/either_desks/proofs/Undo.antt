@@ -31,52 +31,36 @@ use Rattle.either_desks.proofs.Desk.{or-none, now-back, desk-undone, de
 use Rattle.either_desks.proofs.Desks.{both-common, stateOf, nowA, nowB, nowShared, taken-a, taken-b, now-is, twice-is}
 
 -- ---- the bundle that a change is to, by what a desk sees of it
-module _ (a b shared : List ℕ) (w : Whose) where
-  own-a : isOwn (seenByA w) ≡ true → bundleChanged w a b shared ≡ a
-  unfolding isOwn seenByA bundleChanged
-  own-a = go w
-    where
-      go : (w : Whose) → isOwn (seenByA w) ≡ true → bundleChanged w a b shared ≡ a
-      go DeskA e = refl
-      go DeskB e = absurd (true≢false (sym e))
-      go Calendars e = absurd (true≢false (sym e))
+own-a : (a b shared : List ℕ) (w : Whose) → isOwn (seenByA w) ≡ true → bundleChanged w a b shared ≡ a
+unfolding isOwn seenByA bundleChanged
+own-a a b shared DeskA e = refl
+own-a a b shared DeskB e = absurd (true≢false (sym e))
+own-a a b shared Calendars e = absurd (true≢false (sym e))
 
-  own-b : isOwn (seenByB w) ≡ true → bundleChanged w a b shared ≡ b
-  unfolding isOwn seenByB bundleChanged
-  own-b = go w
-    where
-      go : (w : Whose) → isOwn (seenByB w) ≡ true → bundleChanged w a b shared ≡ b
-      go DeskA e = absurd (true≢false (sym e))
-      go DeskB e = refl
-      go Calendars e = absurd (true≢false (sym e))
+own-b : (a b shared : List ℕ) (w : Whose) → isOwn (seenByB w) ≡ true → bundleChanged w a b shared ≡ b
+unfolding isOwn seenByB bundleChanged
+own-b a b shared DeskA e = absurd (true≢false (sym e))
+own-b a b shared DeskB e = refl
+own-b a b shared Calendars e = absurd (true≢false (sym e))
 
-  common-is : isCommon (seenByA w) ≡ true → bundleChanged w a b shared ≡ shared
-  unfolding isCommon seenByA bundleChanged
-  common-is = go w
-    where
-      go : (w : Whose) → isCommon (seenByA w) ≡ true → bundleChanged w a b shared ≡ shared
-      go DeskA e = absurd (true≢false (sym e))
-      go DeskB e = absurd (true≢false (sym e))
-      go Calendars e = refl
+common-is : (a b shared : List ℕ) (w : Whose) → isCommon (seenByA w) ≡ true → bundleChanged w a b shared ≡ shared
+unfolding isCommon seenByA bundleChanged
+common-is a b shared DeskA e = absurd (true≢false (sym e))
+common-is a b shared DeskB e = absurd (true≢false (sym e))
+common-is a b shared Calendars e = refl
 
-  -- where it is seen
-  seen-a : (n : ℕ) → _≡_ {A = ℕ} (cond (sees (seenByA w) && ltb n (length (cond (isCommon (seenByA w)) shared a))) 5 0) (cond (sees (seenByA w) && ltb n (length (bundleChanged w a b shared))) 5 0)
-  unfolding sees isCommon seenByA bundleChanged
-  seen-a n = go w
-    where
-      go : (w : Whose) → _≡_ {A = ℕ} (cond (sees (seenByA w) && ltb n (length (cond (isCommon (seenByA w)) shared a))) 5 0) (cond (sees (seenByA w) && ltb n (length (bundleChanged w a b shared))) 5 0)
-      go DeskA = refl
-      go DeskB = refl
-      go Calendars = refl
+-- where it is seen
+seen-a : (a b shared : List ℕ) (w : Whose) (n : ℕ) → _≡_ {A = ℕ} (cond (sees (seenByA w) && ltb n (length (cond (isCommon (seenByA w)) shared a))) 5 0) (cond (sees (seenByA w) && ltb n (length (bundleChanged w a b shared))) 5 0)
+unfolding sees isCommon seenByA bundleChanged
+seen-a a b shared DeskA n = refl
+seen-a a b shared DeskB n = refl
+seen-a a b shared Calendars n = refl
 
-  seen-b : (n : ℕ) → _≡_ {A = ℕ} (cond (sees (seenByB w) && ltb n (length (cond (isCommon (seenByB w)) shared b))) 5 0) (cond (sees (seenByB w) && ltb n (length (bundleChanged w a b shared))) 5 0)
-  unfolding sees isCommon seenByB bundleChanged
-  seen-b n = go w
-    where
-      go : (w : Whose) → _≡_ {A = ℕ} (cond (sees (seenByB w) && ltb n (length (cond (isCommon (seenByB w)) shared b))) 5 0) (cond (sees (seenByB w) && ltb n (length (bundleChanged w a b shared))) 5 0)
-      go DeskA = refl
-      go DeskB = refl
-      go Calendars = refl
+seen-b : (a b shared : List ℕ) (w : Whose) (n : ℕ) → _≡_ {A = ℕ} (cond (sees (seenByB w) && ltb n (length (cond (isCommon (seenByB w)) shared b))) 5 0) (cond (sees (seenByB w) && ltb n (length (bundleChanged w a b shared))) 5 0)
+unfolding sees isCommon seenByB bundleChanged
+seen-b a b shared DeskA n = refl
+seen-b a b shared DeskB n = refl
+seen-b a b shared Calendars n = refl
 
 enough : (r : ℕ) (t : Bool) → orElse r (cond (t && false) 5 0) ≡ r
 enough r true = or-none r
