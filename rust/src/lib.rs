@@ -11,6 +11,8 @@
 
 use std::fmt;
 
+pub mod quarter;
+
 /// How many files a set has.
 pub const FILES: usize = 20;
 /// How many marks a board of document 01's gate has.
