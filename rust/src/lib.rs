@@ -12,6 +12,7 @@
 use std::fmt;
 
 pub mod desks;
+pub mod quarter;
 
 /// How many files a set has.
 pub const FILES: usize = 20;
