@@ -1,0 +1,4 @@
+pub mod Again
+pub mod Big
+pub mod Filled
+pub mod Facts
