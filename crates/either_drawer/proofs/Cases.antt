@@ -8,16 +8,16 @@ use lib.ListN.{replicate}
 use Rattle.parts.specs.Part.{partOf}
 use Rattle.parts.specs.Files.{Given, isPresent, bytesOf}
 use Rattle.bundle_bytes.specs.Words.{wordAt, wordOf}
-use Rattle.bundle_bytes.specs.Pieces.{joined, startOf, changed, written}
+use Rattle.bundle_bytes.specs.Pieces.{joined, pieceStart, changed, written}
 use Rattle.bundle_layout.specs.Bundle.{headerSize, offsetAt, lengthAt, isOmitted, partAt, fileAt, piecesOf, bundleLength}
 use Rattle.bundle_layout.specs.Change.{filesAfter}
 use Rattle.drawer_layout.specs.Places.{shareByte, isInWay, isFree, standsInside, standApart, firstFree, lowestGap, total, comesBefore, lengthBefore, allLengths, movedTo, listOf, movedDown, areMoved, newPlace, placed}
 use Rattle.drawer_moves.specs.Painted.{painted}
-use Rattle.drawer_held.specs.Drawer.{offsetsOf, lengthsOf, drawerFault, heldFault, changeFault, lengthsFreed, lengthsAfter, placesAfter, entryAt, headerAt, drawerAfter, drawerMade}
+use Rattle.drawer_held.specs.Drawer.{offsetsOf, lengthsOf, drawerFault, heldFault, drawerChangeFault, lengthsFreed, lengthsAfter, placesAfter, entryAt, headerAt, drawerAfter, drawerMade}
 
 -- one name opens all that is computed
 unfoldable open-drawer : Bool
-unfolding partOf isPresent bytesOf wordAt wordOf joined startOf changed written headerSize offsetAt lengthAt isOmitted partAt fileAt piecesOf bundleLength filesAfter shareByte isInWay isFree standsInside standApart firstFree lowestGap total comesBefore lengthBefore allLengths movedTo listOf movedDown areMoved newPlace placed painted offsetsOf lengthsOf drawerFault heldFault changeFault lengthsFreed lengthsAfter placesAfter entryAt headerAt drawerAfter drawerMade
+unfolding partOf isPresent bytesOf wordAt wordOf joined pieceStart changed written headerSize offsetAt lengthAt isOmitted partAt fileAt piecesOf bundleLength filesAfter shareByte isInWay isFree standsInside standApart firstFree lowestGap total comesBefore lengthBefore allLengths movedTo listOf movedDown areMoved newPlace placed painted offsetsOf lengthsOf drawerFault heldFault drawerChangeFault lengthsFreed lengthsAfter placesAfter entryAt headerAt drawerAfter drawerMade
 open-drawer = true
 
 -- a drawer of files at these places, with these bytes behind its header
@@ -46,6 +46,6 @@ other-order = refl
 abbrev full : List ℕ
 full = drawer (0 ∷ 0 ∷ 164 ∷ replicate 17 0) (0 ∷ 0 ∷ 1 ∷ replicate 17 0) (120 ∷ [])
 
-pub one-order-alone : changeFault 20 full 2 (Given []) ∷ changeFault 20 (drawerMade 20 full 2 (Given [])) 4 (Given (121 ∷ [])) ∷ changeFault 20 full 4 (Given (121 ∷ [])) ∷ [] ≡ 0 ∷ 0 ∷ 11 ∷ []
+pub one-order-alone : drawerChangeFault 20 full 2 (Given []) ∷ drawerChangeFault 20 (drawerMade 20 full 2 (Given [])) 4 (Given (121 ∷ [])) ∷ drawerChangeFault 20 full 4 (Given (121 ∷ [])) ∷ [] ≡ 0 ∷ 0 ∷ 11 ∷ []
 unfolding open-drawer
 one-order-alone = refl
