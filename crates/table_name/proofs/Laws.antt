@@ -14,7 +14,7 @@ use Rattle.json_text.specs.declared.TextRead.{TextRead}
 use Rattle.json_text.specs.declared.TextType.the-variants.{Text}
 use Rattle.json_same.specs.Same.{sameAs}
 use Rattle.json_same.specs.declared.Case.the-variants.{Kept}
-use Rattle.table_rows.specs.Rows.{listed, Field, nameStart, nameEnd, nameAt as nameText, fieldAt, fieldsFrom}
+use Rattle.table_rows.specs.Rows.{listed, Field, nameStart, nameEnd, fieldNameAt as nameText, fieldAt, fieldsFrom}
 use Rattle.parts.specs.Part.{partOf}
 use Rattle.table_name.specs.Name.{indexOf, nameAt}
 use Rattle.table_name.specs.declared.NameRead.the-variants.{Unknown}
