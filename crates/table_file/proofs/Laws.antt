@@ -5,11 +5,9 @@ use mathlib.Core.Path.{_≡_, refl, sym, ap, _∙_}
 use mathlib.Core.Bool.{Bool, true, false, _&&_}
 use mathlib.Core.List.{List}
 use native.Mathlib.Nat.{mul-le-mul}
-use native.Mathlib.Numerals.{add-one}
 use native.Mathlib.Omega.{arith}
 use borrow.Author.Tests.{eq-eqb, ne-eqb, lt-ltb, le-ltb, lt-leb}
-use lib.ListN.{length, getD, drop, drop-of-length-le}
-use lib.Seq.{drop-cons}
+use lib.ListN.{length}
 use lib.Dec.{ltb, eqb}
 use Rattle.json_bytes.specs.Reads.{byteAt, spacesEnd}
 use Rattle.json_bytes.specs.declared.Reading.{Reading}
@@ -17,8 +15,6 @@ use Rattle.json_bytes.specs.declared.Reading.the-variants.{Whole, Fault}
 use Rattle.json_bytes.proofs.Laws.{by-test}
 use Rattle.json_bytes.proofs.Bounds.{Within}
 use Rattle.parts.specs.Files.{newFile}
-use Rattle.json_same.specs.Same.{sameList}
-use Rattle.json_same.proofs.Laws.{same-equal}
 use Rattle.table_rows.specs.Rows.{Field, fieldsFrom}
 use Rattle.table_rows.proofs.Laws.{fields-length}
 use Rattle.table_value.specs.Value.{notObjectAt}
@@ -231,28 +227,6 @@ module _ (fields : List Field) (s cells : List ℕ) (at : ℕ) (isStart : at ≡
   pub table-array : single ≡ false → f ≡ arrayAt fields s cells at → f ≡ readTable single fields s cells
   unfolding readTable
   table-array e isArray = rw (e, ← isStart) isArray
-
--- ---- two lists of bytes
-module _ (a b : List ℕ) where
-  pub same-longer : (length a ≡ length b → ⊥) → sameList a b ≡ false
-  same-longer e = go (sameList a b) refl
-    where
-      go : (t : Bool) → sameList a b ≡ t → t ≡ false
-      go true q = absurd (e (ap length (same-equal a b q)))
-      go false q = refl
-
-  module _ (i : ℕ) where
-    pub same-more : i < length a → i < length b → getD a i 0 ≡ getD b i 0 → sameList (drop i a) (drop i b) ≡ sameList (drop (i + 1) a) (drop (i + 1) b)
-    unfolding sameList
-    same-more l m e = rw (drop-cons a i 0 l, drop-cons b i 0 m, eq-eqb (getD a i 0) (getD b i 0) e, add-one i)
-
-    pub same-differs : i < length a → i < length b → (getD a i 0 ≡ getD b i 0 → ⊥) → sameList (drop i a) (drop i b) ≡ false
-    unfolding sameList
-    same-differs l m e = rw (drop-cons a i 0 l, drop-cons b i 0 m, ne-eqb (getD a i 0) (getD b i 0) e)
-
-    pub same-ends : length a ≤ i → length b ≤ i → sameList (drop i a) (drop i b) ≡ true
-    unfolding sameList
-    same-ends l m = rw (drop-of-length-le a l, drop-of-length-le b m)
 
 -- ---- a file
 module _ (form : ℕ) (required : Bool) (text : List ℕ) (fields : List Field) (s cells : List ℕ) (present : Bool) where

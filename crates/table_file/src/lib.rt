@@ -4,7 +4,6 @@ ghost use mathlib.Core.Path.{_≡_};
 ghost use Prim.Native.Nat.{_≤_, _<_};
 ghost use lib.ListN.{length};
 ghost use Rattle.parts.specs.Files.{newFile};
-ghost use Rattle.json_same.specs.Same.{sameList};
 ghost use Rattle.table_rows.specs.Rows.{fieldsFrom};
 ghost use Rattle.table_record.specs.Record.{cellsFilled};
 ghost use Rattle.table_file.specs.Table.{tableRead, endOfFile, singleRead, singleAt, elementAt, elementsFrom, arrayAt, readTable, companionOf};
@@ -16,6 +15,7 @@ use json_bytes::skip_spaces;
 use table_name::Next;
 use table_name::first_in;
 use table_name::next_after;
+use table_name::same_bytes;
 use table_record::read_record;
 use table_value::not_object_at;
 
@@ -221,22 +221,6 @@ pub fn read_table(
         return read_single(s, at, rows, names, count, cells);
     }
     read_array(s, at, rows, names, count, cells)
-}
-
-fn same_bytes(a: &[u8], b: &[u8]) -> bool
-    ensures { λ r. ⌜ r ≡ sameList (now (a .entry)) (now (b .entry)) ⌝ }
-{
-    if a.len() != b.len() {
-        return false;
-    }
-    let mut i = 0;
-    while i < a.len() {
-        if a[i] != b[i] {
-            return false;
-        }
-        i += 1;
-    }
-    true
 }
 
 // A file that is to be a fixed text: 22 where it is not exactly that.
