@@ -90,7 +90,7 @@ fn is_before(
 }
 
 // Its place among the records of a list in order, by halving.
-fn place_of(
+pub fn place_of(
     s: &[u8],
     at: usize,
     sum: u32,

@@ -1,0 +1,5 @@
+pub mod None
+pub mod Turns
+pub mod Lists
+pub mod Chains
+pub mod Shown
