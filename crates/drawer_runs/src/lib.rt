@@ -1,0 +1,1 @@
+// Runs of changes in a drawer are laws alone: see `proofs/`.
