@@ -21,7 +21,7 @@
  * The inline function that gets a workspace of its own gives 102, before all others, where there is no memory for it; the state
  * and the grand totals are then as they were.
  *
- * STACK: a call needs less than KNOTSADDLE_QUARTER_STACK bytes below the caller's frame. */
+ * STACK: taking a set needs some 202 KB below the caller's frame, and less than KNOTSADDLE_QUARTER_STACK bytes. */
 #ifndef KNOTSADDLE_QUARTER_H
 #define KNOTSADDLE_QUARTER_H
 
@@ -33,7 +33,7 @@
 #define KNOTSADDLE_QUARTER_ELEMENTS 4
 #define KNOTSADDLE_QUARTER_COLUMNS 6
 #define KNOTSADDLE_QUARTER_TOTALS 24
-/* what a call needs of the stack */
+/* bytes: more than taking a set needs of the stack */
 #define KNOTSADDLE_QUARTER_STACK 262144
 /* a 257th set, or a handed total beyond its limit */
 #define KNOTSADDLE_QUARTER_FULL 10
