@@ -19,7 +19,7 @@ use Rattle.rule_key.specs.declared.Key.{Key}
 use Rattle.key_order.specs.Order.{sumsOf, inKeyOrder, areFit, sumsAfter, orderAfter}
 use Rattle.key_order.proofs.Lists.{fit-sums, fit-order}
 use Rattle.key_lookup.specs.declared.Lookup.{Lookup}
-use Rattle.key_lookup.specs.Lookup.{keyOf, standsBefore, placeOf, isFound}
+use Rattle.key_lookup.specs.Lookup.{keyOf, standsBefore, keyPlace, isFound}
 use Rattle.link_classes.specs.Classes.{predecessorID, successorID, byPredecessor, classIn, classOf, areColumns, columnAfter}
 
 -- ---- a class, by what was found
@@ -34,7 +34,7 @@ module _ (s : List ℕ) (at : ℕ) (t : Table) (sums order : List ℕ) (l : Look
   not-here e = same-lookup ∙ e
 
   pub place-told : found ≡ true → (sum r : ℕ) → sum ≡ keySum s at → r ≡ searched (standsBefore t l sums sum (charsAt s at)) order → r ≡ classIn t sums order (charsAt s at)
-  unfolding classIn placeOf keySum
+  unfolding classIn keyPlace keySum
   place-told e sum r a b = b ∙ rw (found-here e, a, l-is)
 
   pub none-told : found ≡ false → length order ≡ classIn t sums order (charsAt s at)

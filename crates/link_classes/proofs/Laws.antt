@@ -14,12 +14,12 @@ use Rattle.json_same.specs.declared.Case.the-variants.{Folded}
 use Rattle.json_same.proofs.Laws.{same-cased, same-refl, same-sym, same-trans}
 use Rattle.key_sum.specs.Sum.{sumOf}
 use Rattle.number_search.specs.Search.{searched}
-use Rattle.rule_cells.specs.Cells.{Table, textOf, sameText, firstOf}
+use Rattle.rule_cells.specs.Cells.{Table, textOf, sameText, firstThat}
 use Rattle.rule_cells.proofs.First.{first-none}
 use Rattle.rule_key.proofs.Laws.{both-ways}
 use Rattle.key_order.specs.Order.{precedes, sumsOf, inKeyOrder}
 use Rattle.key_order.proofs.Listed.{Listed, in-key-order-lists}
-use Rattle.key_lookup.specs.Lookup.{keyOf, hasTexts, standsBefore, placeOf, isFound}
+use Rattle.key_lookup.specs.Lookup.{keyOf, hasTexts, standsBefore, keyPlace, isFound}
 use Rattle.key_lookup.proofs.Laws.{found-exactly}
 use Rattle.link_classes.specs.Classes.{predecessorID, successorID, byPredecessor, classIn, classOf}
 
@@ -32,8 +32,8 @@ module _ (t : Table) (sums order x y : List ℕ) (e : sameAs Folded x y ≡ true
   unfolding standsBefore
   stands-same q = rw folded
 
-  place-same : placeOf t byPredecessor sums order x ≡ placeOf t byPredecessor sums order y
-  unfolding placeOf
+  place-same : keyPlace t byPredecessor sums order x ≡ keyPlace t byPredecessor sums order y
+  unfolding keyPlace
   place-same = ap (λ (f : ℕ → Bool). searched f order) (fun-ext stands-same)
 
   same-either : (z : List ℕ) → sameAs Folded x z ≡ sameAs Folded y z
@@ -46,7 +46,7 @@ module _ (t : Table) (sums order x y : List ℕ) (e : sameAs Folded x y ≡ true
 
   found-same : isFound t byPredecessor sums order x ≡ isFound t byPredecessor sums order y
   unfolding isFound
-  found-same = rw place-same (ap (λ (b : Bool). ltb (placeOf t byPredecessor sums order y) (length order) && b) (has-same (getD order (placeOf t byPredecessor sums order y) 0)))
+  found-same = rw place-same (ap (λ (b : Bool). ltb (keyPlace t byPredecessor sums order y) (length order) && b) (has-same (getD order (keyPlace t byPredecessor sums order y) 0)))
 
   pub class-same : classIn t sums order x ≡ classIn t sums order y
   unfolding classIn
@@ -65,14 +65,14 @@ module _ (t : Table) (n : ℕ) where
 
   -- what is found stands at its place
   record At (x : List ℕ) : Type 0 where
-    inside : placeOf t byPredecessor sums order x < n
-    same : sameAs Folded x (textOf t (getD order (placeOf t byPredecessor sums order x) 0) predecessorID) ≡ true
-    class : classIn t sums order x ≡ placeOf t byPredecessor sums order x
+    inside : keyPlace t byPredecessor sums order x < n
+    same : sameAs Folded x (textOf t (getD order (keyPlace t byPredecessor sums order x) 0) predecessorID) ≡ true
+    class : classIn t sums order x ≡ keyPlace t byPredecessor sums order x
 
   found-at : (x : List ℕ) → isFound t byPredecessor sums order x ≡ true → At x
   unfolding isFound hasTexts classIn
   found-at x e =
-      let place = placeOf t byPredecessor sums order x in
+      let place = keyPlace t byPredecessor sums order x in
       let here = sameAs Folded x (textOf t (getD order place 0) predecessorID) in
       record {
         inside = omega (arith, ltb-true place (length order) (both-left (ltb place (length order)) (here && true) e), listed .long);
@@ -90,12 +90,12 @@ module _ (t : Table) (n : ℕ) where
 
   -- a predecessor is found
   predecessor-found : (q : ℕ) → q < n → isFound t byPredecessor sums order (textOf t q predecessorID) ≡ true
-  predecessor-found q h = found-exactly t byPredecessor n (textOf t q predecessorID) ∙ go (firstOf (hasTexts t byPredecessor (textOf t q predecessorID)) n) refl
+  predecessor-found q h = found-exactly t byPredecessor n (textOf t q predecessorID) ∙ go (firstThat (hasTexts t byPredecessor (textOf t q predecessorID)) n) refl
     where
       has : hasTexts t byPredecessor (textOf t q predecessorID) q ≡ true
       has = own-text q
 
-      go : (k : ℕ) → firstOf (hasTexts t byPredecessor (textOf t q predecessorID)) n ≡ k → ltb 0 k ≡ true
+      go : (k : ℕ) → firstThat (hasTexts t byPredecessor (textOf t q predecessorID)) n ≡ k → ltb 0 k ≡ true
       go zero e = absurd (true≢false (sym has ∙ first-none (hasTexts t byPredecessor (textOf t q predecessorID)) n e q h))
       go (suc k) e = lt-ltb 0 (suc k) (omega arith)
 
@@ -115,8 +115,8 @@ module _ (t : Table) (n : ℕ) where
       go true f =
           let a = found-at x f in
           let b = found-at (textOf t q predecessorID) (predecessor-found q h) in
-          let z : placeOf t byPredecessor sums order x ≡ placeOf t byPredecessor sums order (textOf t q predecessorID) = sym (a .class) ∙ e ∙ b .class in
-          same-trans Folded x (textOf t (getD order (placeOf t byPredecessor sums order x) 0) predecessorID) (textOf t q predecessorID) (a .same) (same-sym Folded (textOf t q predecessorID) (textOf t (getD order (placeOf t byPredecessor sums order x) 0) predecessorID) (rw z (b .same)))
+          let z : keyPlace t byPredecessor sums order x ≡ keyPlace t byPredecessor sums order (textOf t q predecessorID) = sym (a .class) ∙ e ∙ b .class in
+          same-trans Folded x (textOf t (getD order (keyPlace t byPredecessor sums order x) 0) predecessorID) (textOf t q predecessorID) (a .same) (same-sym Folded (textOf t q predecessorID) (textOf t (getD order (keyPlace t byPredecessor sums order x) 0) predecessorID) (rw z (b .same)))
       go false f = absurd (behind f)
 
   pub leads-same : (r q : ℕ) → q < n → eqb (classOf t n successorID r) (classOf t n predecessorID q) ≡ sameText t r successorID t q predecessorID

@@ -9,7 +9,7 @@ use Rattle.mark_numbers.specs.Marks.{listOf}
 use Rattle.rule_cells.specs.Cells.{Table, textOf}
 use Rattle.key_order.specs.Order.{sumsOf, inKeyOrder}
 use Rattle.key_lookup.specs.declared.Lookup.{Lookup}
-use Rattle.key_lookup.specs.Lookup.{keyOf, placeOf, isFound}
+use Rattle.key_lookup.specs.Lookup.{keyOf, keyPlace, isFound}
 
 -- PredecessorTaskID and SuccessorTaskID of a link
 abbrev pub predecessorID : ℕ
@@ -26,7 +26,7 @@ byPredecessor = record { m = predecessorID; k = 0; kind = 0; also = 0 }
 -- all of them where there is none
 unfoldable pub classIn : Table → List ℕ → List ℕ → List ℕ → ℕ
 classIn t sums order text =
-    cond (isFound t byPredecessor sums order text) (placeOf t byPredecessor sums order text) (length order)
+    cond (isFound t byPredecessor sums order text) (keyPlace t byPredecessor sums order text) (length order)
 
 -- the class of field k of record r, among n links
 unfoldable pub classOf : Table → ℕ → ℕ → ℕ → ℕ

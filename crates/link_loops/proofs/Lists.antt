@@ -13,7 +13,7 @@ use lib.Seq.{getD-set-same, getD-set-other}
 use lib.Dec.{ltb, eqb}
 use Rattle.link_loops.specs.Loop.{IsLoop}
 use Rattle.link_loops.specs.Links.{linkLeads, seenOf}
-use Rattle.link_loops.specs.Walk.{Least, Chained, Unwalked, RingAt, Ended}
+use Rattle.link_loops.specs.Walk.{Least, Chained, Unwalked, RingAt, WalkEnded}
 use Rattle.link_loops.proofs.None.{no-loop}
 use Rattle.link_loops.proofs.Turns.{same-or-not, less-or-not, Settled, Walk, starts, entered, advanced, left, ring-found, falls-everywhere}
 
@@ -223,7 +223,7 @@ module _ (from to heads nexts : List ℕ) where
       seen-new z = let s = seen-inside v _ v-is (omega arith) in (s .0, omega (arith, s .2), s .1)
 
       -- one that is on the way: a loop
-      pub seen-ring : (v ≡ 0 → ⊥) → v ≤ n → Ended from to way (v - 1) k
+      pub seen-ring : (v ≡ 0 → ⊥) → v ≤ n → WalkEnded from to way (v - 1) k
       seen-ring d l =
           let s = seen-inside v _ v-is l in
           let r : RingAt n (at from) (at to) (at way) (v - 1) k = rw (s .2) (ring-found n (at from) (at to) (w .below) (w .walk) j _ ends refl (s .0) (less-or-not 0 _ (λ x. x) (λ x. absurd (d (omega (arith, s .2))))) (omega (arith, s .2)) steps-few) in
@@ -304,7 +304,7 @@ module _ (from to heads nexts : List ℕ) where
           )
 
     -- ---- every root was met, and nothing is on the way
-    pub walk-ends : n ≤ root → Ended from to way 0 0
+    pub walk-ends : n ≤ root → WalkEnded from to way 0 0
     unfolding linkLeads
     walk-ends h =
         record {

@@ -13,12 +13,12 @@ use lib.Dec.{ltb, leb, eqb}
 use Rattle.json_bytes.proofs.Laws.{both-left, both-right}
 use Rattle.mark_numbers.specs.Marks.{listOf}
 use Rattle.mark_numbers.proofs.Laws.{Filled, list-at, list-length}
-use Rattle.link_loops.specs.Loop.{IsLoop, Shows}
+use Rattle.link_loops.specs.Loop.{IsLoop, ShowsLoop}
 use Rattle.link_loops.specs.Links.{linkLeads, allBelow, areLinks, ShowsLinks}
-use Rattle.link_loops.specs.Walk.{Unchained, Chained, Unwalked, Blank, RingAt, Ended}
+use Rattle.link_loops.specs.Walk.{Unchained, Chained, Unwalked, BlankColumns, RingAt, WalkEnded}
 use Rattle.link_loops.proofs.Lists.{at}
 
-module _ (from to way : List ℕ) (start end : ℕ) (ended : Ended from to way start end) where
+module _ (from to way : List ℕ) (start end : ℕ) (ended : WalkEnded from to way start end) where
   -- the record numbers of the ring
   abbrev number : ℕ → ℕ
   number = λ (i : ℕ). getD way (start + i) 0 + 1
@@ -53,7 +53,7 @@ module _ (from to way : List ℕ) (start end : ℕ) (ended : Ended from to way s
           round = leads-on (length ring - 1) 0 (omega (arith, ring-long)) (omega arith) (r .round (start + (length ring - 1)) (omega (arith, ring-long)) ∙ ap (λ x. getD from (getD way x 0) 0) (omega arith));
         }
 
-  ring-shows : (before after : List ℕ) → length from ≤ length before → after ≡ ring ++ drop (end - start) before → Shows (linkLeads from to) (length from) (end - start) before after
+  ring-shows : (before after : List ℕ) → length from ≤ length before → after ≡ ring ++ drop (end - start) before → ShowsLoop (linkLeads from to) (length from) (end - start) before after
   ring-shows before after room e =
       record {
         loop = λ h. rw (e, take-at ring (drop (end - start) before) (end - start) ring-long) (ring-is (omega arith));
@@ -66,7 +66,7 @@ module _ (from to way : List ℕ) (start end : ℕ) (ended : Ended from to way s
       few : end - start ≤ length before
       few = omega (arith, ended .inside)
 
-  pub ring-shown : (before after : List ℕ) (r : ℕ) → length from ≤ length before → r ≡ end - start → after ≡ ring ++ drop (end - start) before → Shows (linkLeads from to) (length from) r before after
+  pub ring-shown : (before after : List ℕ) (r : ℕ) → length from ≤ length before → r ≡ end - start → after ≡ ring ++ drop (end - start) before → ShowsLoop (linkLeads from to) (length from) r before after
   ring-shown before after r room z e = rw z (ring-shows before after room e)
 
   -- what writing it asks
@@ -82,7 +82,7 @@ all-are n (x ∷ xs) e zero h = ltb-true x n (both-left (ltb x n) (allBelow n xs
 all-are n (x ∷ xs) e (suc p) h = all-are n xs (both-right (ltb x n) (allBelow n xs) e) p (omega arith)
 
 -- ---- the lists at the start of a walk
-pub unwalked : {from to heads nexts heads′ nexts′ way mark list : List ℕ} → Blank from to heads nexts way mark list → Chained from heads′ nexts′ → Unwalked from to heads′ nexts′ way mark
+pub unwalked : {from to heads nexts heads′ nexts′ way mark list : List ℕ} → BlankColumns from to heads nexts way mark list → Chained from heads′ nexts′ → Unwalked from to heads′ nexts′ way mark
 unwalked b c =
     record {
       chained = c;
@@ -107,7 +107,7 @@ front-long : (v m n : ℕ) → n ≤ m → length (take n (replicate m v)) ≡ n
 front-long v m n l = length-take-le n (replicate m v) (omega (arith, length-replicate m v))
 
 pub blank : (from to list : List ℕ) (m : ℕ) → length from ≤ m → m ≤ 4096 → length to ≡ length from → length from ≤ length list → allBelow (length from) from ≡ true
-    → Blank from to (take (length from) (replicate m m)) (take (length from) (replicate m 0)) (take (length from) (replicate m 0)) (take (length from) (replicate m 0)) list
+    → BlankColumns from to (take (length from) (replicate m m)) (take (length from) (replicate m 0)) (take (length from) (replicate m 0)) (take (length from) (replicate m 0)) list
 blank from to list m few most same room below =
     record {
       unchained =
@@ -174,7 +174,7 @@ module _ (from to : List ℕ) (list : List ℕ) where
   pub not-below : length from ≤ 4096 → length to ≡ length from → length from ≤ length list → allBelow (length from) from ≡ false → ShowsLinks from to 0 list list
   not-below h e l f = nothing-shown (are-links from to (length list) h e l ∙ f)
 
-  pub links-shown : length from ≤ 4096 → length to ≡ length from → length from ≤ length list → allBelow (length from) from ≡ true → (m : ℕ) (last : List ℕ) → Shows (linkLeads from to) (length from) m list last → ShowsLinks from to m list last
+  pub links-shown : length from ≤ 4096 → length to ≡ length from → length from ≤ length list → allBelow (length from) from ≡ true → (m : ℕ) (last : List ℕ) → ShowsLoop (linkLeads from to) (length from) m list last → ShowsLinks from to m list last
   links-shown h e l f m last s = record { right = λ g. s; wrong = λ g. absurd (true≢false (sym (are-links from to (length list) h e l ∙ f) ∙ g)) }
 
 -- ---- a list that a loop filled up to place m

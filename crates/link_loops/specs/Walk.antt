@@ -36,7 +36,7 @@ pub record Unwalked (from to heads nexts way mark : List ℕ) : Type 0 where
   pub unseen : (c : ℕ) → c < length from → getD mark c 0 ≡ 0
 
 -- all lists at the start
-pub record Blank (from to heads nexts way mark list : List ℕ) : Type 0 where
+pub record BlankColumns (from to heads nexts way mark list : List ℕ) : Type 0 where
   pub unchained : Unchained from heads nexts
   pub few : length from ≤ 4096
   pub to-long : length to ≡ length from
@@ -55,7 +55,7 @@ pub record RingAt (n : ℕ) (from to way : ℕ → ℕ) (start end : ℕ) : Type
   pub round : (j : ℕ) → j + 1 ≡ end → to (way j) ≡ from (way start)
 
 -- how a walk ends: with a ring, or where start and end are the same, with the knowledge that there is none
-pub record Ended (from to way : List ℕ) (start end : ℕ) : Type 0 where
+pub record WalkEnded (from to way : List ℕ) (start end : ℕ) : Type 0 where
   pub long : length way ≡ length from
   pub ordered : start ≤ end
   pub inside : end ≤ length from

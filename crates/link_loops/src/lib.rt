@@ -7,9 +7,9 @@ ghost use Prim.Native.Nat.{ℕ, _+_, _-_, _≤_, _<_};
 ghost use lib.ListN.{length, getD, set, drop};
 ghost use mathlib.Core.List.{_++_};
 ghost use Rattle.mark_numbers.specs.Marks.{listOf};
-ghost use Rattle.link_loops.specs.Loop.{Shows};
+ghost use Rattle.link_loops.specs.Loop.{ShowsLoop};
 ghost use Rattle.link_loops.specs.Links.{linkLeads, allBelow, seenOf, ShowsLinks};
-ghost use Rattle.link_loops.specs.Walk.{Unchained, Chained, Unwalked, Blank, Ended};
+ghost use Rattle.link_loops.specs.Walk.{Unchained, Chained, Unwalked, BlankColumns, WalkEnded};
 
 // Where a walk ended: with the links from place `start` of the way up to `end`, which are a loop. Where
 // the two are the same there is none.
@@ -84,7 +84,7 @@ fn walk(
     mark: &mut [usize],
 ) -> Ring
     requires { ⌜ Unwalked (now from) (now to) (now heads) (now nexts) (now way) (now mark) ⌝ }
-    ensures { λ r. ⌜ Ended (now (from .entry)) (now (to .entry)) (now (way .exit)) (r .start) (r .end) ⌝ }
+    ensures { λ r. ⌜ WalkEnded (now (from .entry)) (now (to .entry)) (now (way .exit)) (r .start) (r .end) ⌝ }
 {
     let n = from.len();
     let mut steps = 0;
@@ -152,8 +152,8 @@ fn show_in(
     mark: &mut [usize],
     list: &mut [u32],
 ) -> usize
-    requires { ⌜ Blank (now from) (now to) (now heads) (now nexts) (now way) (now mark) (now list) ⌝ }
-    ensures { λ r. ⌜ Shows (linkLeads (now (from .entry)) (now (to .entry))) (length (now (from .entry))) r (now (list .entry)) (now (list .exit)) ⌝ }
+    requires { ⌜ BlankColumns (now from) (now to) (now heads) (now nexts) (now way) (now mark) (now list) ⌝ }
+    ensures { λ r. ⌜ ShowsLoop (linkLeads (now (from .entry)) (now (to .entry))) (length (now (from .entry))) r (now (list .entry)) (now (list .exit)) ⌝ }
 {
     chain_links(from, heads, nexts);
     let ring = walk(from, to, heads, nexts, way, mark);
