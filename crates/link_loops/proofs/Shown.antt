@@ -81,6 +81,11 @@ all-are n [] e p h = absurd (omega arith)
 all-are n (x ∷ xs) e zero h = ltb-true x n (both-left (ltb x n) (allBelow n xs) e)
 all-are n (x ∷ xs) e (suc p) h = all-are n xs (both-right (ltb x n) (allBelow n xs) e) p (omega arith)
 
+pub below-each : (n : ℕ) (s : List ℕ) → ((p : ℕ) → p < length s → getD s p 0 < n) → allBelow n s ≡ true
+unfolding allBelow
+below-each n [] h = refl
+below-each n (x ∷ xs) h = rw (lt-ltb x n (h 0 (omega arith)), below-each n xs (λ p l. h (suc p) (omega arith)))
+
 -- ---- the lists at the start of a walk
 pub unwalked : {from to heads nexts heads′ nexts′ way mark list : List ℕ} → BlankColumns from to heads nexts way mark list → Chained from heads′ nexts′ → Unwalked from to heads′ nexts′ way mark
 unwalked b c =
@@ -180,3 +185,30 @@ module _ (from to : List ℕ) (list : List ℕ) where
 -- ---- a list that a loop filled up to place m
 pub all-written : (f : ℕ → ℕ) (old : List ℕ) (i m : ℕ) {list : List ℕ} → Filled f old i list → i ≡ m → list ≡ listOf f m ++ drop m old
 all-written f old i m w e = rw (← e) (w .is)
+
+-- ---- what is shown is so for every test that agrees on the records
+module _ (f g : ℕ → ℕ → Bool) (n : ℕ) (agree : (x y : ℕ) → 0 < x → x ≤ n → 0 < y → y ≤ n → f x y ≡ g x y) where
+  loop-same : (ring : List ℕ) → IsLoop f n ring → IsLoop g n ring
+  loop-same ring l =
+      record {
+        some = l .some;
+        records = l .records;
+        once = l .once;
+        next = λ i h. sym (both-agree i (suc i) (omega arith) h) ∙ l .next i h;
+        round = sym (both-agree (length ring - 1) 0 (omega (arith, l .some)) (l .some)) ∙ l .round;
+      }
+    where
+      both-agree : (i j : ℕ) → i < length ring → j < length ring → f (getD ring i 0) (getD ring j 0) ≡ g (getD ring i 0) (getD ring j 0)
+      both-agree i j a b =
+          agree (getD ring i 0) (getD ring j 0) (l .records i a .0) (l .records i a .1) (l .records j b .0) (l .records j b .1)
+
+module _ (f g : ℕ → ℕ → Bool) (n : ℕ) (agree : (x y : ℕ) → 0 < x → x ≤ n → 0 < y → y ≤ n → f x y ≡ g x y) where
+  pub shows-same : (m : ℕ) (before after : List ℕ) → Shows f n m before after → Shows g n m before after
+  shows-same m before after s =
+      record {
+        loop = λ h. loop-same f g n agree (take m after) (s .loop h);
+        none = λ z ring l. s .none z ring (loop-same g f n (λ x y a b c d. sym (agree x y a b c d)) ring l);
+        room = s .room;
+        rest = s .rest;
+        long = s .long;
+      }

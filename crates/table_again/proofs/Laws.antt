@@ -33,5 +33,5 @@ module _ (s : List ℕ) (k room : ℕ) {cells fields names own part : List ℕ} 
   same = rw (own-is, first-is, count-is, rows-are, names-are, file-fields k, omitted-is, part-is, file-by s k, cleared)
 
   pub read-again : {r : FileRead} {last : List ℕ} → (r ≡ fileOf (expectedFrom 0 false [] (fieldsFrom own names count 0)) (newFile (not omitted) part) cells .read) × (last ≡ fileOf (expectedFrom 0 false [] (fieldsFrom own names count 0)) (newFile (not omitted) part) cells .cells)
-      → (r .records ≡ readAgain s k room .read .records) × (last ≡ readAgain s k room .cells)
-  read-again (e, h) = (ap (λ x. x .records) e ∙ ap (λ t. t .read .records) same, h ∙ ap (λ t. t .cells) same)
+      → (r ≡ readAgain s k room .read) × (last ≡ readAgain s k room .cells)
+  read-again (e, h) = (e ∙ ap (λ t. t .read) same, h ∙ ap (λ t. t .cells) same)

@@ -7,6 +7,7 @@ use bundle::is_omitted;
 use bundle::part_at;
 use table_fields::field_names;
 use table_fields::field_rows;
+use table_file::FileRead;
 use table_file::read_file;
 use table_rows::field_count;
 use table_rows::first_field;
@@ -25,10 +26,10 @@ fn clear(cells: &mut [u32])
     }
 }
 
-// Reads file k of a bundle into lent cells, whatever these held; answers the number of its records, 0
-// where it can't be read.
-pub fn read_records(bundle: &[u8], k: usize, cells: &mut [u32]) -> usize
-    ensures { λ r. ⌜ r ≡ readAgain (now (bundle .entry)) k (length (now (cells .entry))) .read .records ⌝ }
+// Reads file k of a bundle into lent cells, whatever these held; answers its mark and the number of its
+// records.
+pub fn read_again(bundle: &[u8], k: usize, cells: &mut [u32]) -> FileRead
+    ensures { λ r. ⌜ r ≡ readAgain (now (bundle .entry)) k (length (now (cells .entry))) .read ⌝ }
     ensures { λ _. ⌜ now (cells .exit) ≡ readAgain (now (bundle .entry)) k (length (now (cells .entry))) .cells ⌝ }
 {
     clear(cells);
@@ -38,5 +39,13 @@ pub fn read_records(bundle: &[u8], k: usize, cells: &mut [u32]) -> usize
     let count = field_count(&fields, k);
     let present = !is_omitted(bundle, k);
     let s = part_at(bundle, k);
-    read_file(RECORDS, false, present, s, b"", own, &names, count, cells).records
+    read_file(RECORDS, false, present, s, b"", own, &names, count, cells)
+}
+
+// The same; answers the number of its records alone, 0 where it can't be read.
+pub fn read_records(bundle: &[u8], k: usize, cells: &mut [u32]) -> usize
+    ensures { λ r. ⌜ r ≡ readAgain (now (bundle .entry)) k (length (now (cells .entry))) .read .records ⌝ }
+    ensures { λ _. ⌜ now (cells .exit) ≡ readAgain (now (bundle .entry)) k (length (now (cells .entry))) .cells ⌝ }
+{
+    read_again(bundle, k, cells).records
 }
