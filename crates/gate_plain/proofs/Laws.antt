@@ -17,12 +17,12 @@ use Rattle.table_file.specs.File.{Expected, fileOf}
 use Rattle.table_file.proofs.Kept.{file-length}
 use Rattle.rule_cells.specs.Cells.{Table, table}
 use Rattle.rule_shape.specs.declared.Rule.{Rule}
-use Rattle.rule_shape.specs.Rule.{firstOf, secondOf}
+use Rattle.rule_shape.specs.Rule.{firstFileOf, secondFileOf}
 use Rattle.rules.specs.declared.Break.{Break}
 use Rattle.rules.specs.Judge.{ruleBreak, isJudged, markOf}
 use Rattle.bundle_layout.specs.Bundle.{isOmitted, partAt, fileAt, bundleFault}
 use Rattle.board.specs.declared.Board.{Board}
-use Rattle.gate_marks.specs.Gate.{Gate, gateFrom, marksOf, ruleOf}
+use Rattle.gate_marks.specs.Gate.{Gate, gateFrom, marksOf, ruleOfMark}
 use Rattle.gate_marks.specs.Work.{zeros, widthOf, roomOf, readOf}
 use Rattle.gate_marks.specs.Marks.{markRead, fileMark, tableOf, ruleMark, ruleMarkAt, markAt, fullMarks}
 use Rattle.gate_marks.proofs.Rooms.{length-zeros}
@@ -82,9 +82,9 @@ module _ (values texts : List ℕ) (rule : Rule) (e u : Expected) (f h : File) {
       r-is ∙ ap (λ (j : Bool). markOf j found) (judged-again j-is) ∙ ap (λ (b : Break). markOf (isJudged (readOf e f .read .kind) (readOf u h .read .kind)) b) (found-is ∙ ap (λ (x : Table). ruleBreak values texts rule x (table t others breadth (other .records))) (table-again e f read-is s-is c-is w-is) ∙ ap (λ (x : Table). ruleBreak values texts rule (tableOf e f) x) (table-again u h other-is t-is o-is b-is))
 
 -- over the files that its line names
-pub rule-plain : (g : Gate) (rule : Rule) (files : ℕ → File) {first second : ℕ} → first ≡ firstOf rule → second ≡ secondOf rule → {r : Mark}
+pub rule-plain : (g : Gate) (rule : Rule) (files : ℕ → File) {first second : ℕ} → first ≡ firstFileOf rule → second ≡ secondFileOf rule → {r : Mark}
     → r ≡ markOf (isJudged (readOf (g .expected first) (files first) .read .kind) (readOf (g .expected second) (files second) .read .kind)) (ruleBreak (g .values) (g .texts) rule (tableOf (g .expected first) (files first)) (tableOf (g .expected second) (files second)))
-    → r ≡ ruleMark g rule (files (firstOf rule)) (files (secondOf rule))
+    → r ≡ ruleMark g rule (files (firstFileOf rule)) (files (secondFileOf rule))
 unfolding ruleMark
 rule-plain g rule files d e r-is = rw (← d, ← e) r-is
 
@@ -95,24 +95,24 @@ module _ (g : Gate) (m : ℕ) (files : ℕ → File) where
   own-mark l {read} e = rw (lt-ltb m (g .files) l) (ap (λ (r : FileRead). record { kind = r .kind; place = r .place; companion = r .companion }) e)
 
   module _ (past : g .files ≤ m) where
-    pub first-missing : {first : ℕ} → first ≡ firstOf (ruleOf g m) → g .files ≤ first → notJudged ≡ markAt g m files
+    pub first-missing : {first : ℕ} → first ≡ firstFileOf (ruleOfMark g m) → g .files ≤ first → notJudged ≡ markAt g m files
     unfolding markAt ruleMarkAt
     first-missing {first} e l =
-        let no : ltb (firstOf (ruleOf g m)) (g .files) ≡ false = ap (λ k. ltb k (g .files)) (sym e) ∙ le-ltb first (g .files) l in
+        let no : ltb (firstFileOf (ruleOfMark g m)) (g .files) ≡ false = ap (λ k. ltb k (g .files)) (sym e) ∙ le-ltb first (g .files) l in
         rw (le-ltb m (g .files) past, no)
 
-    pub second-missing : {first second : ℕ} → first ≡ firstOf (ruleOf g m) → first < g .files → second ≡ secondOf (ruleOf g m) → g .files ≤ second → notJudged ≡ markAt g m files
+    pub second-missing : {first second : ℕ} → first ≡ firstFileOf (ruleOfMark g m) → first < g .files → second ≡ secondFileOf (ruleOfMark g m) → g .files ≤ second → notJudged ≡ markAt g m files
     unfolding markAt ruleMarkAt
     second-missing {first} {second} d b e l =
-        let yes : ltb (firstOf (ruleOf g m)) (g .files) ≡ true = ap (λ k. ltb k (g .files)) (sym d) ∙ lt-ltb first (g .files) b in
-        let no : ltb (secondOf (ruleOf g m)) (g .files) ≡ false = ap (λ k. ltb k (g .files)) (sym e) ∙ le-ltb second (g .files) l in
+        let yes : ltb (firstFileOf (ruleOfMark g m)) (g .files) ≡ true = ap (λ k. ltb k (g .files)) (sym d) ∙ lt-ltb first (g .files) b in
+        let no : ltb (secondFileOf (ruleOfMark g m)) (g .files) ≡ false = ap (λ k. ltb k (g .files)) (sym e) ∙ le-ltb second (g .files) l in
         rw (le-ltb m (g .files) past, yes, no)
 
-    pub rule-mark : {first second : ℕ} → first ≡ firstOf (ruleOf g m) → first < g .files → second ≡ secondOf (ruleOf g m) → second < g .files → {r : Mark} → r ≡ ruleMark g (ruleOf g m) (files (firstOf (ruleOf g m))) (files (secondOf (ruleOf g m))) → r ≡ markAt g m files
+    pub rule-mark : {first second : ℕ} → first ≡ firstFileOf (ruleOfMark g m) → first < g .files → second ≡ secondFileOf (ruleOfMark g m) → second < g .files → {r : Mark} → r ≡ ruleMark g (ruleOfMark g m) (files (firstFileOf (ruleOfMark g m))) (files (secondFileOf (ruleOfMark g m))) → r ≡ markAt g m files
     unfolding markAt ruleMarkAt
     rule-mark {first} {second} d b e l r-is =
-        let yes : ltb (firstOf (ruleOf g m)) (g .files) ≡ true = ap (λ k. ltb k (g .files)) (sym d) ∙ lt-ltb first (g .files) b in
-        let too : ltb (secondOf (ruleOf g m)) (g .files) ≡ true = ap (λ k. ltb k (g .files)) (sym e) ∙ lt-ltb second (g .files) l in
+        let yes : ltb (firstFileOf (ruleOfMark g m)) (g .files) ≡ true = ap (λ k. ltb k (g .files)) (sym d) ∙ lt-ltb first (g .files) b in
+        let too : ltb (secondFileOf (ruleOfMark g m)) (g .files) ≡ true = ap (λ k. ltb k (g .files)) (sym e) ∙ lt-ltb second (g .files) l in
         rw (le-ltb m (g .files) past, yes, too) r-is
 
 -- ---- lists of 81 marks are as long as the tables say

@@ -6,7 +6,7 @@ ghost use mathlib.Core.Bool.{true};
 ghost use Prim.Native.Nat.{_+_, _/_, _≤_};
 ghost use lib.ListN.{length, take};
 ghost use Rattle.mark_numbers.specs.Marks.{marksIn, haveLength};
-ghost use Rattle.rule_shape.specs.Rule.{ruleFrom, firstOf, secondOf};
+ghost use Rattle.rule_shape.specs.Rule.{ruleFrom, firstFileOf, secondFileOf};
 ghost use Rattle.bundle_layout.specs.Bundle.{fileAt};
 ghost use Rattle.gate_marks.specs.Gate.{gateFrom, expectedIn};
 ghost use Rattle.gate_marks.specs.Work.{readOf};
@@ -76,7 +76,7 @@ fn rule_plain(
     u_cells: &mut [u32],
 ) -> Mark
     requires { ⌜ (524288 ≤ length (now cells)) × (524288 ≤ length (now «u_cells»)) ⌝ }
-    ensures { λ r. ⌜ r ≡ ruleMark (gateFrom (now (forms .entry)) (now (fields .entry)) (now (names .entry)) (now (fixed .entry)) (now (rules .entry)) (now (values .entry)) (now (texts .entry))) (ruleFrom (now (rules .entry)) i) (fileAt (now (bundle .entry)) (firstOf (ruleFrom (now (rules .entry)) i))) (fileAt (now (bundle .entry)) (secondOf (ruleFrom (now (rules .entry)) i))) ⌝ }
+    ensures { λ r. ⌜ r ≡ ruleMark (gateFrom (now (forms .entry)) (now (fields .entry)) (now (names .entry)) (now (fixed .entry)) (now (rules .entry)) (now (values .entry)) (now (texts .entry))) (ruleFrom (now (rules .entry)) i) (fileAt (now (bundle .entry)) (firstFileOf (ruleFrom (now (rules .entry)) i))) (fileAt (now (bundle .entry)) (secondFileOf (ruleFrom (now (rules .entry)) i))) ⌝ }
 {
     let first = first_file(rules, i);
     let second = second_file(rules, i);
