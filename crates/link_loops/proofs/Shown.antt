@@ -203,7 +203,7 @@ module _ (f g : ℕ → ℕ → Bool) (n : ℕ) (agree : (x y : ℕ) → 0 < x �
           agree (getD ring i 0) (getD ring j 0) (l .records i a .0) (l .records i a .1) (l .records j b .0) (l .records j b .1)
 
 module _ (f g : ℕ → ℕ → Bool) (n : ℕ) (agree : (x y : ℕ) → 0 < x → x ≤ n → 0 < y → y ≤ n → f x y ≡ g x y) where
-  pub shows-same : (m : ℕ) (before after : List ℕ) → Shows f n m before after → Shows g n m before after
+  pub shows-same : (m : ℕ) (before after : List ℕ) → ShowsLoop f n m before after → ShowsLoop g n m before after
   shows-same m before after s =
       record {
         loop = λ h. loop-same f g n agree (take m after) (s .loop h);
