@@ -1,10 +1,10 @@
 -- The names under which the 20 files of a set stand in a folder: document 01, "File numbers", with the endings that
 -- document 002 gives the tables.
-use Prim.Native.Nat.{ℕ, _+_}
-use mathlib.Core.Bool.{cond, _&&_}
+use Prim.Native.Nat.{ℕ}
+use mathlib.Core.Bool.{cond}
 use mathlib.Core.List.{List, [], _∷_, map}
-use lib.ListN.{length, getD}
-use lib.Dec.{leb, ltb, eqb}
+use lib.ListN.{getD}
+use lib.Dec.{eqb}
 use Rattle.table_rows.specs.Ascii.{codes}
 
 unfoldable pub fileNames : List (List ℕ)
@@ -49,8 +49,3 @@ tails = map (λ name. 47 ∷ name) fileNames
 -- a slash and a file's name; nothing for a number over 19
 unfoldable pub tailOf : ℕ → List ℕ
 tailOf file = getD tails file []
-
--- the length of a file's path in a folder whose name has `folder` bytes; 0 where the path has no room, and for a number over 19
-unfoldable pub pathLength : List ℕ → ℕ → ℕ → ℕ
-pathLength path folder file =
-    cond (ltb file 20 && leb (folder + length (tailOf file)) (length path)) (folder + length (tailOf file)) 0

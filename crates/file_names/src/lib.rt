@@ -1,11 +1,9 @@
-// The names of the 20 files of a set and of their tables, and a file's path in a folder.
+// The names of the 20 files of a set and of their tables.
 ghost use mathlib.Core.Path.{_≡_};
 ghost use Prim.Native.Nat.{_-_};
-ghost use Rattle.bundle_bytes.specs.Pieces.{written};
-ghost use Rattle.file_names.specs.Names.{tailOf, fileName, tableName, pathLength};
+ghost use Rattle.file_names.specs.Names.{fileName, tableName};
 ghost use Rattle.output.specs.Output.{outputAt, put};
 ghost use Rattle.file_names.specs.Flat.{allTails, tailStart, dotBefore};
-use bundle_bytes::put_part;
 use output::put_text;
 use parts::part;
 
@@ -94,26 +92,4 @@ pub fn put_table_name(out: &mut [u8], at: usize, file: usize) -> usize
     let tails = tails();
     let tail = part(&tails, tail_start(file), tail_start(file + 1));
     put_text(out, at, part(tail, 1, dot_before(file, tail.len())))
-}
-
-// Makes the path of a file in the folder whose name is the first `folder` bytes of `path`: writes a
-// slash and the file's name behind them, and answers the path's length. Where there is no room, and
-// for a number over 19, it writes nothing and answers 0.
-pub fn put_path(path: &mut [u8], folder: usize, file: usize) -> usize
-    ensures { λ r. ⌜ r ≡ pathLength (now (path .entry)) folder file ⌝ }
-    ensures { λ _. ⌜ now (path .exit) ≡ written (now (path .entry)) folder (tailOf file) ⌝ }
-{
-    if 19 < file {
-        return 0;
-    }
-    let tails = tails();
-    let tail = part(&tails, tail_start(file), tail_start(file + 1));
-    if path.len() < tail.len() {
-        return 0;
-    }
-    if path.len() - tail.len() < folder {
-        return 0;
-    }
-    put_part(path, folder, tail);
-    folder + tail.len()
 }

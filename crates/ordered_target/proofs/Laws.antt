@@ -25,9 +25,9 @@ use Rattle.ordered_target.specs.Found.{breaksLookup}
 abbrev pub only : ℕ → Lookup
 only m = record { m = m; k = 0; kind = 0; also = 0 }
 
-alone : (u : Table) (m : ℕ) (text : List ℕ) (q : ℕ) → hasTexts u (only m) text q ≡ sameAs Folded text (textOf u q m)
+pub only-has : (u : Table) (m : ℕ) (text : List ℕ) (q : ℕ) → hasTexts u (only m) text q ≡ sameAs Folded text (textOf u q m)
 unfolding hasTexts
-alone u m text q = go (sameAs Folded text (textOf u q m))
+only-has u m text q = go (sameAs Folded text (textOf u q m))
   where
     go : (b : Bool) → (b && true) ≡ b
     go true = refl
@@ -42,7 +42,7 @@ not-found : (s cells : List ℕ) (width n m : ℕ) (text : List ℕ) → not (is
 unfolding targetOf
 not-found s cells width n m text =
     ap not (found-exactly (table s cells width 0) (only m) n text) ∙ none-above (firstOf (hasTexts (table s cells width 0) (only m) text) n)
-    ∙ ap (λ (f : ℕ → Bool). eqb (firstOf f n) 0) (fun-ext (alone (table s cells width 0) m text))
+    ∙ ap (λ (f : ℕ → Bool). eqb (firstOf f n) 0) (fun-ext (only-has (table s cells width 0) m text))
 
 module _ (s cells : List ℕ) (width n k : ℕ) (w : When) (u-bytes u-cells : List ℕ) (u-width u-n m : ℕ) (places texts : List ℕ) where
   abbrev u : Table

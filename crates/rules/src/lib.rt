@@ -9,6 +9,7 @@ ghost use Rattle.rule_tree.specs.Tree.{treeParentRule, leafRule};
 ghost use Rattle.rules.specs.Judge.{alone, ofKey, ofOutline, parentBreak, ruleBreak, isJudged, markOf};
 use mark_numbers::Mark;
 use ordered_key::key_rule_in;
+use ordered_leaf::leaf_rule_in;
 use ordered_outline::parent_type_rule_in;
 use ordered_target::target_rule_in;
 use parts::part;
@@ -30,7 +31,6 @@ use rule_shape::Rule;
 use rule_shape::rule_at;
 use rule_target::Target;
 use rule_target::target_rule;
-use rule_tree::leaf_rule;
 use rule_tree::tree_level_rule;
 use rule_tree::tree_parent_rule;
 use rule_value::FieldRule;
@@ -130,7 +130,8 @@ fn tree_parent_break(
     alone(0)
 }
 
-// The rule on leaves: a record that names an element of `u` which has a child.
+// The rule on leaves, through an order of those elements of `u` that have a child: a record that names one
+// of them.
 fn leaf_break(
     s: &[u8],
     cells: &[u32],
@@ -146,7 +147,7 @@ fn leaf_break(
 ) -> Break
     ensures { λ r. ⌜ r ≡ alone (leafRule (table (now (s .entry)) (now (cells .entry)) width records) field (table (now (u .entry)) (now («u_cells» .entry)) «u_width» «u_records») id level) ⌝ }
 {
-    alone(leaf_rule(
+    alone(leaf_rule_in(
         s,
         cells,
         width,

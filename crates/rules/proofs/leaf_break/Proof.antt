@@ -5,14 +5,14 @@ use Rattle.rules.specs.Judge.{alone}
 use Rattle.rules.proofs.leaf_break.Statement.{statement}
 use Rattle.rules.proofs.leaf_break.Tie as tie
 
-leaf-rule-requires : tie.Need-leaf-rule-requires
-leaf-rule-requires c κs = search needs
+leaf-rule-in-requires : tie.Need-leaf-rule-in-requires
+leaf-rule-in-requires c κs = search needs
 
 alone-requires : tie.Need-alone-requires
 alone-requires c κs = search needs
 
 returns : tie.Need-returns
-returns c = c .alone .ensures ∙ ap alone (c .before .leaf-rule .ensures)
+returns c = c .alone .ensures ∙ ap alone (c .before .leaf-rule-in .ensures)
 
 pub leaf-break-spec : {M : Type 1} → statement M
-leaf-break-spec = tie.close (tie.spec leaf-rule-requires alone-requires returns)
+leaf-break-spec = tie.close (tie.spec leaf-rule-in-requires alone-requires returns)
