@@ -22,10 +22,10 @@ use drawer_bundles::put_bundle;
 use drawer_bundles::take_bundle;
 use drawers::Drawn;
 use drawers::drawer_file;
-use drawers::drawer_judge;
-use drawers::drawer_make;
+use drawers::drawer_judge_in;
+use drawers::drawer_make_in;
 use drawers::drawer_state;
-use drawers::drawer_try;
+use drawers::drawer_try_in;
 use libc::STDIN_FILENO;
 use libc::STDOUT_FILENO;
 use parts::part;
@@ -148,15 +148,22 @@ fn write_found(drawer: &[u8], k: usize) -> bool {
     false
 }
 
-fn make(drawer: &mut [u8], board: Board, k: usize, present: bool, new: &[u8]) -> bool {
-    let drawn = drawer_make(drawer, board, k, present, new);
+fn make(
+    drawer: &mut [u8],
+    board: Board,
+    k: usize,
+    present: bool,
+    new: &[u8],
+    work: &mut [u32],
+) -> bool {
+    let drawn = drawer_make_in(drawer, board, k, present, new, work);
     if write_drawn(drawn) {
         return write_part(drawer);
     }
     false
 }
 
-fn change(head: &[u8], drawer: &mut [u8], new: &mut [u8]) -> bool {
+fn change(head: &[u8], drawer: &mut [u8], new: &mut [u8], work: &mut [u32]) -> bool {
     let board = read_board();
     let w = word_at(head, 16) as usize;
     if !fill_front(new, w) {
@@ -166,9 +173,9 @@ fn change(head: &[u8], drawer: &mut [u8], new: &mut [u8]) -> bool {
     let k = word_at(head, 8) as usize;
     let present = word_at(head, 12) == 1;
     if word_at(head, 0) == 1 {
-        return write_drawn(drawer_try(drawer, board, k, present, bytes));
+        return write_drawn(drawer_try_in(drawer, board, k, present, bytes, work));
     }
-    make(drawer, board, k, present, bytes)
+    make(drawer, board, k, present, bytes, work)
 }
 
 fn put(drawer: &mut [u8], new: &mut [u8], w: usize) -> bool {
@@ -203,14 +210,20 @@ fn take_front(drawer: &[u8], out: &mut [u8], z: usize, seed: usize) -> bool {
 }
 
 // Answers the case of this head over the drawer, which is read first.
-fn answer_drawer(head: &[u8], drawer: &mut [u8], new: &mut [u8], out: &mut [u8]) -> bool {
+fn answer_drawer(
+    head: &[u8],
+    drawer: &mut [u8],
+    new: &mut [u8],
+    out: &mut [u8],
+    work: &mut [u32],
+) -> bool {
     if !fill(STDIN_FILENO, drawer) {
         return false;
     }
     match word_at(head, 0) {
-        0 => write_drawn(drawer_judge(drawer)),
-        1 => change(head, drawer, new),
-        2 => change(head, drawer, new),
+        0 => write_drawn(drawer_judge_in(drawer, work)),
+        1 => change(head, drawer, new, work),
+        2 => change(head, drawer, new, work),
         3 => write_found(drawer, word_at(head, 8) as usize),
         4 => put(drawer, new, word_at(head, 16) as usize),
         5 => take_front(
@@ -223,28 +236,34 @@ fn answer_drawer(head: &[u8], drawer: &mut [u8], new: &mut [u8], out: &mut [u8])
     }
 }
 
-fn answer_head(head: &[u8], drawer: &mut [u8], new: &mut [u8], out: &mut [u8]) -> bool {
+fn answer_head(
+    head: &[u8],
+    drawer: &mut [u8],
+    new: &mut [u8],
+    out: &mut [u8],
+    work: &mut [u32],
+) -> bool {
     let n = word_at(head, 4) as usize;
     if drawer.len() < n {
         return false;
     }
-    answer_drawer(head, &mut drawer[..n], new, out)
+    answer_drawer(head, &mut drawer[..n], new, out, work)
 }
 
 // Answers the next case; whether to go on.
-fn answer(drawer: &mut [u8], new: &mut [u8], out: &mut [u8]) -> bool {
+fn answer(drawer: &mut [u8], new: &mut [u8], out: &mut [u8], work: &mut [u32]) -> bool {
     let mut head = [0u8; 28];
     if !fill(STDIN_FILENO, &mut head) {
         return false;
     }
-    answer_head(&head, drawer, new, out)
+    answer_head(&head, drawer, new, out, work)
 }
 
 // A proved loop has to end, and nothing says that the input does. So the loop counts its turns
 // down, from a number that no run uses up.
-fn answer_all(drawer: &mut [u8], new: &mut [u8], out: &mut [u8]) {
+fn answer_all(drawer: &mut [u8], new: &mut [u8], out: &mut [u8], work: &mut [u32]) {
     let mut turns = u64::MAX;
-    while turns > 0 && answer(drawer, new, out) {
+    while turns > 0 && answer(drawer, new, out, work) {
         turns -= 1;
     }
 }
@@ -253,5 +272,6 @@ fn main() {
     let mut drawer = [0u8; 1048577];
     let mut new = [0u8; 1048577];
     let mut out = [0u8; 1048577];
-    answer_all(&mut drawer, &mut new, &mut out);
+    let mut work = [0u32; 794702];
+    answer_all(&mut drawer, &mut new, &mut out, &mut work);
 }

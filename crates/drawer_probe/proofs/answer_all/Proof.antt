@@ -7,11 +7,11 @@ use Rattle.drawer_probe.proofs.answer_all.Statement.{statement}
 use Rattle.drawer_probe.proofs.answer_all.Tie as tie
 
 abbrev Inv-loop : tie.InvT-loop
-Inv-loop drawer₀ new₀ out₀ turns₀ drawer new out turns =
-    (length drawer ≡ length drawer₀) × (length new ≡ length new₀) × (length out ≡ length out₀)
+Inv-loop drawer₀ new₀ out₀ work₀ turns₀ drawer new out work turns =
+    (length drawer ≡ length drawer₀) × (length new ≡ length new₀) × (length out ≡ length out₀) × (length work ≡ length work₀)
 
 abbrev μ-loop : tie.MeasureT-loop
-μ-loop drawer₀ new₀ out₀ turns₀ drawer new out turns = turns
+μ-loop drawer₀ new₀ out₀ work₀ turns₀ drawer new out work turns = turns
 
 loop-holds : tie.Need-loop-holds Inv-loop μ-loop
 loop-holds c = omega arith
@@ -37,17 +37,23 @@ same-length-2 c = omega arith
 same-length-3 : tie.Need-same-length-3 Inv-loop μ-loop
 same-length-3 c = omega arith
 
-returns : tie.Need-returns Inv-loop μ-loop
-returns c = tt
-
 same-length-4 : tie.Need-same-length-4 Inv-loop μ-loop
 same-length-4 c = omega arith
+
+returns : tie.Need-returns Inv-loop μ-loop
+returns c = tt
 
 same-length-5 : tie.Need-same-length-5 Inv-loop μ-loop
 same-length-5 c = omega arith
 
 same-length-6 : tie.Need-same-length-6 Inv-loop μ-loop
 same-length-6 c = omega arith
+
+same-length-7 : tie.Need-same-length-7 Inv-loop μ-loop
+same-length-7 c = omega arith
+
+same-length-8 : tie.Need-same-length-8 Inv-loop μ-loop
+same-length-8 c = omega arith
 
 returns-2 : tie.Need-returns-2 Inv-loop μ-loop
 returns-2 c = tt
@@ -66,8 +72,10 @@ answer-all-spec =
     same-length
     same-length-2
     same-length-3
-    returns
     same-length-4
+    returns
     same-length-5
     same-length-6
+    same-length-7
+    same-length-8
     returns-2)

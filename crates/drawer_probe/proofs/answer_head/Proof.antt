@@ -33,6 +33,9 @@ same-length-2 c = search needs
 same-length-3 : tie.Need-same-length-3
 same-length-3 c = search needs
 
+same-length-4 : tie.Need-same-length-4
+same-length-4 c = search needs
+
 returns-2 : tie.Need-returns-2
 returns-2 c = search needs
 
@@ -49,4 +52,5 @@ answer-head-spec =
     same-length
     same-length-2
     same-length-3
+    same-length-4
     returns-2)

@@ -14,6 +14,9 @@ slice-aggregate-answer-all-2 c = sym (length-replicate {A = ℕ} 1048577 0)
 slice-aggregate-answer-all-3 : tie.Need-slice-aggregate-answer-all-3
 slice-aggregate-answer-all-3 c = sym (length-replicate {A = ℕ} 1048577 0)
 
+slice-aggregate-answer-all-4 : tie.Need-slice-aggregate-answer-all-4
+slice-aggregate-answer-all-4 c = sym (length-replicate {A = ℕ} 794702 0)
+
 answer-all-requires : tie.Need-answer-all-requires
 answer-all-requires c κs = tt
 
@@ -27,5 +30,6 @@ main-spec =
     slice-aggregate-answer-all
     slice-aggregate-answer-all-2
     slice-aggregate-answer-all-3
+    slice-aggregate-answer-all-4
     answer-all-requires
     returns)
