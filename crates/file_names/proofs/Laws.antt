@@ -5,7 +5,7 @@ use mathlib.Core.Path.{_≡_, refl, ap, _∙_}
 use mathlib.Core.List.{List, [], map, flatten}
 use lib.ListN.{length, List·getD-eq-default}
 use borrow.Author.Tests.{eq-eqb, ne-eqb}
-use Rattle.table_rows.specs.Ascii.{codes}
+use Rattle.json_bytes.specs.Ascii.{codes}
 use Rattle.parts.specs.Part.{partOf}
 use Rattle.table_rows.specs.Rows.{countBefore}
 use Rattle.table_rows.proofs.Laws.{upFrom, each, count-past}

@@ -13,7 +13,7 @@ use lib.Dec.{ltb, leb, eqb}
 use Rattle.json_bytes.proofs.Laws.{both-left, both-right}
 use Rattle.mark_numbers.specs.Marks.{listOf}
 use Rattle.mark_numbers.proofs.Laws.{Filled, list-at, list-length}
-use Rattle.link_loops.specs.Loop.{IsLoop, ShowsLoop}
+use Rattle.link_loops.specs.Loop.{IsLoop, ShowsRing}
 use Rattle.link_loops.specs.Links.{linkLeads, allBelow, areLinks, ShowsLinks}
 use Rattle.link_loops.specs.Walk.{Unchained, Chained, Unwalked, BlankColumns, RingAt, WalkEnded}
 use Rattle.link_loops.proofs.Lists.{at}
@@ -53,7 +53,7 @@ module _ (from to way : List ℕ) (start end : ℕ) (ended : WalkEnded from to w
           round = leads-on (length ring - 1) 0 (omega (arith, ring-long)) (omega arith) (r .round (start + (length ring - 1)) (omega (arith, ring-long)) ∙ ap (λ x. getD from (getD way x 0) 0) (omega arith));
         }
 
-  ring-shows : (before after : List ℕ) → length from ≤ length before → after ≡ ring ++ drop (end - start) before → ShowsLoop (linkLeads from to) (length from) (end - start) before after
+  ring-shows : (before after : List ℕ) → length from ≤ length before → after ≡ ring ++ drop (end - start) before → ShowsRing (linkLeads from to) (length from) (end - start) before after
   ring-shows before after room e =
       record {
         loop = λ h. rw (e, take-at ring (drop (end - start) before) (end - start) ring-long) (ring-is (omega arith));
@@ -66,7 +66,7 @@ module _ (from to way : List ℕ) (start end : ℕ) (ended : WalkEnded from to w
       few : end - start ≤ length before
       few = omega (arith, ended .inside)
 
-  pub ring-shown : (before after : List ℕ) (r : ℕ) → length from ≤ length before → r ≡ end - start → after ≡ ring ++ drop (end - start) before → ShowsLoop (linkLeads from to) (length from) r before after
+  pub ring-shown : (before after : List ℕ) (r : ℕ) → length from ≤ length before → r ≡ end - start → after ≡ ring ++ drop (end - start) before → ShowsRing (linkLeads from to) (length from) r before after
   ring-shown before after r room z e = rw z (ring-shows before after room e)
 
   -- what writing it asks
@@ -179,7 +179,7 @@ module _ (from to : List ℕ) (list : List ℕ) where
   pub not-below : length from ≤ 4096 → length to ≡ length from → length from ≤ length list → allBelow (length from) from ≡ false → ShowsLinks from to 0 list list
   not-below h e l f = nothing-shown (are-links from to (length list) h e l ∙ f)
 
-  pub links-shown : length from ≤ 4096 → length to ≡ length from → length from ≤ length list → allBelow (length from) from ≡ true → (m : ℕ) (last : List ℕ) → ShowsLoop (linkLeads from to) (length from) m list last → ShowsLinks from to m list last
+  pub links-shown : length from ≤ 4096 → length to ≡ length from → length from ≤ length list → allBelow (length from) from ≡ true → (m : ℕ) (last : List ℕ) → ShowsRing (linkLeads from to) (length from) m list last → ShowsLinks from to m list last
   links-shown h e l f m last s = record { right = λ g. s; wrong = λ g. absurd (true≢false (sym (are-links from to (length list) h e l ∙ f) ∙ g)) }
 
 -- ---- a list that a loop filled up to place m
@@ -203,7 +203,7 @@ module _ (f g : ℕ → ℕ → Bool) (n : ℕ) (agree : (x y : ℕ) → 0 < x �
           agree (getD ring i 0) (getD ring j 0) (l .records i a .0) (l .records i a .1) (l .records j b .0) (l .records j b .1)
 
 module _ (f g : ℕ → ℕ → Bool) (n : ℕ) (agree : (x y : ℕ) → 0 < x → x ≤ n → 0 < y → y ≤ n → f x y ≡ g x y) where
-  pub shows-same : (m : ℕ) (before after : List ℕ) → ShowsLoop f n m before after → ShowsLoop g n m before after
+  pub shows-same : (m : ℕ) (before after : List ℕ) → ShowsRing f n m before after → ShowsRing g n m before after
   shows-same m before after s =
       record {
         loop = λ h. loop-same f g n agree (take m after) (s .loop h);

@@ -6,7 +6,7 @@ use mathlib.Core.Bool.{Bool, true, false, cond, _&&_}
 use mathlib.Core.List.{List, [], _∷_}
 use lib.ListN.{length, getD}
 use lib.Dec.{ltb, leb, eqb}
-use Rattle.link_loops.specs.Loop.{ShowsLoop}
+use Rattle.link_loops.specs.Loop.{ShowsRing}
 
 -- record x leads to record y, both numbered from 1
 unfoldable pub linkLeads : List ℕ → List ℕ → ℕ → ℕ → Bool
@@ -24,7 +24,7 @@ areLinks from to room =
 
 -- what is shown of such columns; of any others nothing
 pub record ShowsLinks (from to : List ℕ) (m : ℕ) (before after : List ℕ) : Type 0 where
-  pub right : areLinks from to (length before) ≡ true → ShowsLoop (linkLeads from to) (length from) m before after
+  pub right : areLinks from to (length before) ≡ true → ShowsRing (linkLeads from to) (length from) m before after
   pub wrong : areLinks from to (length before) ≡ false → (m ≡ 0) × (after ≡ before)
 
 -- what is seen of a class: 0 it is new; up to n its place on the way; above, there is nothing left to go through, be it that

@@ -16,7 +16,7 @@ pub record IsLoop (leads : ℕ → ℕ → Bool) (n : ℕ) (ring : List ℕ) : T
 
 -- "It says 'none' exactly if no loop exists", which is m = 0 here; "the list is untouched unless a loop is written to its
 -- start": else a loop of m records stands there, and all behind it is as before. Which loop it is, is left open.
-pub record ShowsLoop (leads : ℕ → ℕ → Bool) (n m : ℕ) (before after : List ℕ) : Type 0 where
+pub record ShowsRing (leads : ℕ → ℕ → Bool) (n m : ℕ) (before after : List ℕ) : Type 0 where
   pub loop : 0 < m → IsLoop leads n (take m after)
   pub none : m ≡ 0 → (ring : List ℕ) → IsLoop leads n ring → ⊥
   pub room : m ≤ length before

@@ -7,7 +7,7 @@ ghost use Prim.Native.Nat.{ℕ, _+_, _-_, _≤_, _<_};
 ghost use lib.ListN.{length, getD, set, drop};
 ghost use mathlib.Core.List.{_++_};
 ghost use Rattle.mark_numbers.specs.Marks.{listOf};
-ghost use Rattle.link_loops.specs.Loop.{ShowsLoop};
+ghost use Rattle.link_loops.specs.Loop.{ShowsRing};
 ghost use Rattle.link_loops.specs.Links.{linkLeads, allBelow, seenOf, ShowsLinks};
 ghost use Rattle.link_loops.specs.Walk.{Unchained, Chained, Unwalked, BlankColumns, WalkEnded};
 
@@ -153,7 +153,7 @@ fn show_in(
     list: &mut [u32],
 ) -> usize
     requires { ⌜ BlankColumns (now from) (now to) (now heads) (now nexts) (now way) (now mark) (now list) ⌝ }
-    ensures { λ r. ⌜ ShowsLoop (linkLeads (now (from .entry)) (now (to .entry))) (length (now (from .entry))) r (now (list .entry)) (now (list .exit)) ⌝ }
+    ensures { λ r. ⌜ ShowsRing (linkLeads (now (from .entry)) (now (to .entry))) (length (now (from .entry))) r (now (list .entry)) (now (list .exit)) ⌝ }
 {
     chain_links(from, heads, nexts);
     let ring = walk(from, to, heads, nexts, way, mark);

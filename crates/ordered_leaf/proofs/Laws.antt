@@ -16,7 +16,7 @@ use Rattle.json_bytes.proofs.Laws.{both-left, both-right}
 use Rattle.json_same.specs.Same.{sameAs}
 use Rattle.json_same.specs.declared.Case.the-variants.{Folded}
 use Rattle.json_chars.specs.Chars.{charsAt}
-use Rattle.rule_cells.specs.Cells.{Table, table, startOf, isGiven, integerIn, textOf, sameText, firstOf}
+use Rattle.rule_cells.specs.Cells.{Table, table, startOf, isGiven, integerIn, textOf, sameText, firstThat}
 use Rattle.rule_cells.proofs.Laws.{cell-is}
 use Rattle.rule_key.specs.declared.Key.{Key}
 use Rattle.rule_key.proofs.Laws.{both-ways}
@@ -29,7 +29,7 @@ use Rattle.key_order.proofs.Lists.{fit-sums, fit-order}
 use Rattle.key_lookup.specs.Lookup.{keyOf}
 use Rattle.key_lookup.proofs.Laws.{found-exactly}
 use Rattle.ordered_target.proofs.Laws.{only, only-has}
-use Rattle.ordered_leaf.specs.Parents.{picked, parentStarts, namesOne, breaksLookup}
+use Rattle.ordered_leaf.specs.Parents.{picked, parentStarts, namesOne, leafBreaksLookup}
 
 -- ---- what is picked out
 module _ (passes : ℕ → Bool) (told : ℕ → ℕ) where
@@ -127,12 +127,12 @@ module _ (s cells : List ℕ) (width n k : ℕ) (bytes starts : List ℕ) where
   abbrev listed : Table
   listed = table bytes starts 1 0
 
-  found-same : (r : ℕ) → breaksLookup t k listed (only 0) (sumsOf listed 0 (length starts)) (inKeyOrder listed (keyOf (only 0)) (length starts)) r ≡ namesOne t k bytes starts r
-  unfolding breaksLookup namesOne someOf sameText
+  found-same : (r : ℕ) → leafBreaksLookup t k listed (only 0) (sumsOf listed 0 (length starts)) (inKeyOrder listed (keyOf (only 0)) (length starts)) r ≡ namesOne t k bytes starts r
+  unfolding leafBreaksLookup namesOne someOf sameText
   found-same r =
       ap (λ (b : Bool). isGiven cells width r k && b)
       (found-exactly listed (only 0) (length starts) (textOf t r k)
-      ∙ ap (λ (f : ℕ → Bool). ltb 0 (firstOf f (length starts))) (fun-ext (only-has listed 0 (textOf t r k))))
+      ∙ ap (λ (f : ℕ → Bool). ltb 0 (firstThat f (length starts))) (fun-ext (only-has listed 0 (textOf t r k))))
 
   fit : (sums order scratch : List ℕ) → length starts ≤ 4096 → length sums ≡ length starts → length order ≡ length starts → length scratch ≡ length starts → areFit sums order scratch ≡ true
   unfolding areFit
@@ -140,12 +140,12 @@ module _ (s cells : List ℕ) (width n k : ℕ) (bytes starts : List ℕ) where
       rw (le-leb (length order) 4096 (omega arith), eq-eqb (length sums) (length order) (omega arith), eq-eqb (length scratch) (length order) (omega arith))
 
   -- what the lent lists say, once they are filled
-  pub filled-names : (key : Key) (sums order scratch sums′ order′ : List ℕ) (x : ℕ) → (length starts ≤ 4096) × (length sums ≡ length starts) × (length order ≡ length starts) × (length scratch ≡ length starts) → key ≡ keyOf (only 0) → sums′ ≡ sumsAfter listed key sums order scratch → order′ ≡ orderAfter listed key sums order scratch → x ≡ firstOf (breaksLookup t k listed (only 0) sums′ order′) n → x ≡ firstOf (namesOne t k bytes starts) n
+  pub filled-names : (key : Key) (sums order scratch sums′ order′ : List ℕ) (x : ℕ) → (length starts ≤ 4096) × (length sums ≡ length starts) × (length order ≡ length starts) × (length scratch ≡ length starts) → key ≡ keyOf (only 0) → sums′ ≡ sumsAfter listed key sums order scratch → order′ ≡ orderAfter listed key sums order scratch → x ≡ firstThat (leafBreaksLookup t k listed (only 0) sums′ order′) n → x ≡ firstThat (namesOne t k bytes starts) n
   filled-names key sums order scratch sums′ order′ x long c g i j =
       let f : areFit sums order scratch ≡ true = fit sums order scratch (long .0) (long .1) (long .2) (long .3) in
       let a : sums′ ≡ sumsOf listed 0 (length starts) = g ∙ fit-sums sums order scratch listed key f ∙ rw (c, long .2) in
       let o : order′ ≡ inKeyOrder listed (keyOf (only 0)) (length starts) = i ∙ fit-order sums order scratch listed key f ∙ rw (c, long .2) in
-      j ∙ rw (a, o) (ap (λ (f : ℕ → Bool). firstOf f n) (fun-ext found-same))
+      j ∙ rw (a, o) (ap (λ (f : ℕ → Bool). firstThat f n) (fun-ext found-same))
 
 -- ---- the fronts of four lists of 4,096
 pub fronts-fit : (n m : ℕ) (starts sums order scratch : List ℕ) → n ≤ m → m ≤ 4096 → length starts ≡ 4096 → length sums ≡ 4096 → length order ≡ 4096 → length scratch ≡ 4096 → (length (take n starts) ≤ 4096) × (length (take n sums) ≡ length (take n starts)) × (length (take n order) ≡ length (take n starts)) × (length (take n scratch) ≡ length (take n starts))
@@ -173,8 +173,8 @@ module _ (s cells : List ℕ) (width n k : ℕ) (bytes u-cells : List ℕ) (u-wi
       (first-same (λ (j : ℕ). sameAs Folded (charsAt s (startOf cells width r k)) (charsAt bytes (startOf theirs 1 j 0))) (λ (j : ℕ). sameAs Folded (charsAt s (startOf cells width r k)) (charsAt bytes (getD theirs j 0))) (length theirs) (λ j h. rw (start-is theirs j (omega arith))))
       ∙ some-picked (hasChild (levelOf (table bytes u-cells u-width 0) level) u-n) (λ (q : ℕ). startOf u-cells u-width q id) (λ (a : ℕ). sameAs Folded (charsAt s (startOf cells width r k)) (charsAt bytes a)) u-n)
 
-  pub picked-gives-rule : (list old : List ℕ) (m x : ℕ) → (m ≡ length theirs) × (m ≤ u-n) → u-n ≤ 4096 → list ≡ theirs ++ drop m old → x ≡ firstOf (namesOne (table s cells width 0) k bytes (take m list)) n → x ≡ leafRule (table s cells width n) k (table bytes u-cells u-width u-n) id level
+  pub picked-gives-rule : (list old : List ℕ) (m x : ℕ) → (m ≡ length theirs) × (m ≤ u-n) → u-n ≤ 4096 → list ≡ theirs ++ drop m old → x ≡ firstThat (namesOne (table s cells width 0) k bytes (take m list)) n → x ≡ leafRule (table s cells width n) k (table bytes u-cells u-width u-n) id level
   unfolding leafRule
   picked-gives-rule list old m x long few e h =
       let f : take m list ≡ theirs = rw (e, long .0) (take-append-seam theirs (drop (length theirs) old)) in
-      h ∙ rw f (ap (λ (f : ℕ → Bool). firstOf f n) (fun-ext (names-parent (omega (arith, long .0, long .1)))))
+      h ∙ rw f (ap (λ (f : ℕ → Bool). firstThat f n) (fun-ext (names-parent (omega (arith, long .0, long .1)))))

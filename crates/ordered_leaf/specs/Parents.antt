@@ -25,5 +25,5 @@ namesOne t k bytes starts r =
     isGiven (t .cells) (t .width) r k && someOf (λ (j : ℕ). sameText t r k (table bytes starts 1 0) j 0) (length starts)
 
 -- the same, looked up in a list of these texts
-unfoldable pub breaksLookup : Table → ℕ → Table → Lookup → List ℕ → List ℕ → ℕ → Bool
-breaksLookup t k u l sums order r = isGiven (t .cells) (t .width) r k && isFound u l sums order (textOf t r k)
+unfoldable pub leafBreaksLookup : Table → ℕ → Table → Lookup → List ℕ → List ℕ → ℕ → Bool
+leafBreaksLookup t k u l sums order r = isGiven (t .cells) (t .width) r k && isFound u l sums order (textOf t r k)

@@ -4,9 +4,9 @@ ghost use mathlib.Core.Path.{_≡_};
 ghost use mathlib.Core.List.{_++_};
 ghost use Prim.Native.Nat.{_≤_};
 ghost use lib.ListN.{length, drop};
-ghost use Rattle.rule_cells.specs.Cells.{table, startOf, firstOf};
+ghost use Rattle.rule_cells.specs.Cells.{table, startOf, firstThat};
 ghost use Rattle.rule_tree.specs.Tree.{leafRule};
-ghost use Rattle.ordered_leaf.specs.Parents.{parentStarts, breaksLookup, namesOne};
+ghost use Rattle.ordered_leaf.specs.Parents.{parentStarts, leafBreaksLookup, namesOne};
 use key_lookup::Lookup;
 use key_lookup::is_found;
 use key_lookup::key_of;
@@ -75,7 +75,7 @@ fn breaks_lookup(
     sums: &[u32],
     order: &[u32],
 ) -> bool
-    ensures { λ x. ⌜ x ≡ breaksLookup (table (now (s .entry)) (now (cells .entry)) width 0) k (table (now (u .entry)) (now (starts .entry)) 1 0) l (now (sums .entry)) (now (order .entry)) r ⌝ }
+    ensures { λ x. ⌜ x ≡ leafBreaksLookup (table (now (s .entry)) (now (cells .entry)) width 0) k (table (now (u .entry)) (now (starts .entry)) 1 0) l (now (sums .entry)) (now (order .entry)) r ⌝ }
 {
     if is_given(cells, width, r, k) {
         let at = start_of(cells, width, r, k);
@@ -97,7 +97,7 @@ fn first_found(
     sums: &[u32],
     order: &[u32],
 ) -> usize
-    ensures { λ x. ⌜ x ≡ firstOf (breaksLookup (table (now (s .entry)) (now (cells .entry)) width 0) k (table (now (u .entry)) (now (starts .entry)) 1 0) l (now (sums .entry)) (now (order .entry))) records ⌝ }
+    ensures { λ x. ⌜ x ≡ firstThat (leafBreaksLookup (table (now (s .entry)) (now (cells .entry)) width 0) k (table (now (u .entry)) (now (starts .entry)) 1 0) l (now (sums .entry)) (now (order .entry))) records ⌝ }
 {
     let mut r = 0;
     while r < records {
@@ -124,7 +124,7 @@ fn first_naming(
     scratch: &mut [u32],
 ) -> usize
     requires { ⌜ (length (now starts) ≤ 4096) × (length (now sums) ≡ length (now starts)) × (length (now order) ≡ length (now starts)) × (length (now scratch) ≡ length (now starts)) ⌝ }
-    ensures { λ x. ⌜ x ≡ firstOf (namesOne (table (now (s .entry)) (now (cells .entry)) width 0) k (now (u .entry)) (now (starts .entry))) records ⌝ }
+    ensures { λ x. ⌜ x ≡ firstThat (namesOne (table (now (s .entry)) (now (cells .entry)) width 0) k (now (u .entry)) (now (starts .entry))) records ⌝ }
 {
     let l = Lookup {
         m: 0,

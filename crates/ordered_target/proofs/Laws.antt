@@ -10,7 +10,7 @@ use lib.ListN.{length}
 use lib.Dec.{ltb, eqb}
 use Rattle.json_same.specs.Same.{sameAs}
 use Rattle.json_same.specs.declared.Case.the-variants.{Folded}
-use Rattle.rule_cells.specs.Cells.{Table, table, textOf, firstOf}
+use Rattle.rule_cells.specs.Cells.{Table, table, textOf, firstThat}
 use Rattle.rule_when.specs.declared.When.{When}
 use Rattle.rule_key.specs.declared.Key.{Key}
 use Rattle.rule_target.specs.Target.{targetOf, breaksTarget, targetRule}
@@ -41,8 +41,8 @@ none-above (suc k) = rw (lt-ltb 0 (suc k) (omega arith), ne-eqb (suc k) 0 (λ z.
 not-found : (s cells : List ℕ) (width n m : ℕ) (text : List ℕ) → not (isFound (table s cells width 0) (only m) (sumsOf (table s cells width 0) m n) (inKeyOrder (table s cells width 0) (keyOf (only m)) n) text) ≡ eqb (targetOf text (table s cells width n) m) 0
 unfolding targetOf
 not-found s cells width n m text =
-    ap not (found-exactly (table s cells width 0) (only m) n text) ∙ none-above (firstOf (hasTexts (table s cells width 0) (only m) text) n)
-    ∙ ap (λ (f : ℕ → Bool). eqb (firstOf f n) 0) (fun-ext (only-has (table s cells width 0) m text))
+    ap not (found-exactly (table s cells width 0) (only m) n text) ∙ none-above (firstThat (hasTexts (table s cells width 0) (only m) text) n)
+    ∙ ap (λ (f : ℕ → Bool). eqb (firstThat f n) 0) (fun-ext (only-has (table s cells width 0) m text))
 
 module _ (s cells : List ℕ) (width n k : ℕ) (w : When) (u-bytes u-cells : List ℕ) (u-width u-n m : ℕ) (places texts : List ℕ) where
   abbrev u : Table
@@ -56,9 +56,9 @@ module _ (s cells : List ℕ) (width n k : ℕ) (w : When) (u-bytes u-cells : Li
   breaks-same r = rw (not-found u-bytes u-cells u-width u-n m (textOf (table s cells width 0) r k))
 
   -- what the lent lists say, once they are filled, is the rule's answer
-  pub filled-gives-rule : (key : Key) (sums order scratch sums′ order′ : List ℕ) (fit : Bool) (x : ℕ) → key ≡ keyOf (only m) → length order ≡ u-n → fit ≡ areFit sums order scratch → fit ≡ true → sums′ ≡ sumsAfter u key sums order scratch → order′ ≡ orderAfter u key sums order scratch → x ≡ firstOf (lookup sums′ order′) n → x ≡ targetRule (table s cells width n) k w (table u-bytes u-cells u-width u-n) m places texts
+  pub filled-gives-rule : (key : Key) (sums order scratch sums′ order′ : List ℕ) (fit : Bool) (x : ℕ) → key ≡ keyOf (only m) → length order ≡ u-n → fit ≡ areFit sums order scratch → fit ≡ true → sums′ ≡ sumsAfter u key sums order scratch → order′ ≡ orderAfter u key sums order scratch → x ≡ firstThat (lookup sums′ order′) n → x ≡ targetRule (table s cells width n) k w (table u-bytes u-cells u-width u-n) m places texts
   unfolding targetRule
   filled-gives-rule key sums order scratch sums′ order′ fit x c h f e g i j =
       let a : sums′ ≡ sumsOf u m u-n = g ∙ fit-sums sums order scratch u key (sym f ∙ e) ∙ rw (c, h) in
       let o : order′ ≡ inKeyOrder u (keyOf (only m)) u-n = i ∙ fit-order sums order scratch u key (sym f ∙ e) ∙ rw (c, h) in
-      j ∙ rw (a, o) (ap (λ (g : ℕ → Bool). firstOf g n) (fun-ext breaks-same))
+      j ∙ rw (a, o) (ap (λ (g : ℕ → Bool). firstThat g n) (fun-ext breaks-same))

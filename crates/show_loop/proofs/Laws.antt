@@ -25,7 +25,7 @@ use Rattle.schedule.specs.Schedule.{free, expectedFiles, schedule}
 use Rattle.table_again.specs.Again.{asRecords, readAgain}
 use Rattle.link_classes.specs.Classes.{predecessorID, successorID, classOf, areColumns, columnAfter}
 use Rattle.link_classes.proofs.Laws.{class-below, leads-same}
-use Rattle.link_loops.specs.Loop.{IsLoop, Shows}
+use Rattle.link_loops.specs.Loop.{IsLoop, ShowsRing}
 use Rattle.link_loops.specs.Links.{linkLeads, allBelow, areLinks, ShowsLinks}
 use Rattle.link_loops.proofs.Shown.{below-each, are-links, shows-same}
 use Rattle.show_loop.specs.Show.{links, leadsTo, loopFault, ShowsLoop, workspace, ShowsLoopIn}
@@ -67,10 +67,10 @@ module _ (t : Table) (from to : List ℕ) (few : length from ≤ 4096) (same : l
     links-lead x y a b c d =
         rw (to-at (x - 1) (omega arith), from-at (y - 1) (omega arith)) (leads-same t (length from) (x - 1) (y - 1) (omega arith))
 
-    pub columns-show : (m : ℕ) (before after : List ℕ) → length from ≤ length before → ShowsLinks from′ to′ m before after → Shows (leadsTo t) (length from) m before after
+    pub columns-show : (m : ℕ) (before after : List ℕ) → length from ≤ length before → ShowsLinks from′ to′ m before after → ShowsRing (leadsTo t) (length from) m before after
     columns-show m before after room s =
         let l : areLinks from′ to′ (length before) ≡ true = are-links from′ to′ (length before) (omega (arith, from-long)) (to-long ∙ sym from-long) (omega (arith, from-long)) ∙ below in
-        let z : Shows (linkLeads from′ to′) (length from) m before after = rw from-long at (s .right l) in
+        let z : ShowsRing (linkLeads from′ to′) (length from) m before after = rw from-long at (s .right l) in
         shows-same (linkLeads from′ to′) (leadsTo t) (length from) links-lead m before after z
 
 -- how many records a table is said to have is no matter
@@ -156,7 +156,7 @@ module _ (s w : List ℕ) (lent : 40960 ≤ length w) where
 
     -- ---- what is shown of it
     module _ (part : List ℕ) (part-is : part ≡ bytesOf (fileAt s 14)) where
-      pub links-shown : (m : ℕ) (before after : List ℕ) → Shows (leadsTo (table part (take 40960 (cells ++ drop 40960 w)) 10 0)) (read .records) m before after → Shows (leadsTo (links s)) (links s .records) m before after
+      pub links-shown : (m : ℕ) (before after : List ℕ) → ShowsRing (leadsTo (table part (take 40960 (cells ++ drop 40960 w)) 10 0)) (read .records) m before after → ShowsRing (leadsTo (links s)) (links s .records) m before after
       links-shown m before after x =
           rw (links-are s, ← leads-any (bytesOf (fileAt s 14)) (readAgain s 14 40960 .cells) 10 (readAgain s 14 40960 .read .records)) (rw (part-is, front-cells, read-right) at x)
 
@@ -175,11 +175,11 @@ module _ (s before : List ℕ) (lent : ℕ) where
     unfolding ShowsLoop
     refused k e d = in-room before (Refused k) (e, omega arith, refl)
 
-    pub nothing-shown : (m : ℕ) (after : List ℕ) → loopFault s (length before) ≡ 0 → Shows (leadsTo (links s)) (links s .records) m before after → m ≡ 0 → ShowsLoopIn lent s before after Nothing
+    pub nothing-shown : (m : ℕ) (after : List ℕ) → loopFault s (length before) ≡ 0 → ShowsRing (leadsTo (links s)) (links s .records) m before after → m ≡ 0 → ShowsLoopIn lent s before after Nothing
     unfolding ShowsLoop
     nothing-shown m after f x z = in-room after Nothing (f, rw z at x)
 
-    pub ring-shown : (m : ℕ) (after : List ℕ) → loopFault s (length before) ≡ 0 → Shows (leadsTo (links s)) (links s .records) m before after → (m ≡ 0 → ⊥) → ShowsLoopIn lent s before after (Ring m)
+    pub ring-shown : (m : ℕ) (after : List ℕ) → loopFault s (length before) ≡ 0 → ShowsRing (leadsTo (links s)) (links s .records) m before after → (m ≡ 0 → ⊥) → ShowsLoopIn lent s before after (Ring m)
     unfolding ShowsLoop
     ring-shown m after f x d = in-room after (Ring m) (f, omega arith, x)
 
@@ -192,5 +192,5 @@ own-work s before after lent shown h x = rw (le-leb 40960 lent h, ShowsLoopIn) a
 pub columns-fit : (from to records room : ℕ) → records ≤ 4096 → records ≤ room → from ≡ records → to ≡ records → (from ≤ 4096) × (to ≡ from) × (from ≤ room)
 columns-fit from to records room a b x y = (omega arith, y ∙ sym x, omega arith)
 
-pub of-records : (f : ℕ → ℕ → Bool) (n records m : ℕ) (before after : List ℕ) → n ≡ records → Shows f n m before after → Shows f records m before after
+pub of-records : (f : ℕ → ℕ → Bool) (n records m : ℕ) (before after : List ℕ) → n ≡ records → ShowsRing f n m before after → ShowsRing f records m before after
 of-records f n records m before after e x = rw e at x

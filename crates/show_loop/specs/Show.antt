@@ -11,7 +11,7 @@ use Rattle.bundle_layout.specs.Bundle.{bundleFault, fileAt}
 use Rattle.gate_marks.specs.Marks.{fileMark, tableOf}
 use Rattle.schedule.specs.Schedule.{schedule}
 use Rattle.link_classes.specs.Classes.{predecessorID, successorID}
-use Rattle.link_loops.specs.Loop.{Shows}
+use Rattle.link_loops.specs.Loop.{ShowsRing}
 use Rattle.show_loop.specs.declared.Shown.{Shown}
 use Rattle.show_loop.specs.declared.Shown.the-variants.{Nothing, Ring, Refused}
 
@@ -33,9 +33,9 @@ loopFault s room =
 -- what is answered, and what the list then holds
 unfoldable pub ShowsLoop : List ℕ → List ℕ → List ℕ → Shown → Type 0
 ShowsLoop s before after Nothing =
-    (loopFault s (length before) ≡ 0) × Shows (leadsTo (links s)) (links s .records) 0 before after
+    (loopFault s (length before) ≡ 0) × ShowsRing (leadsTo (links s)) (links s .records) 0 before after
 ShowsLoop s before after (Ring m) =
-    (loopFault s (length before) ≡ 0) × (0 < m) × Shows (leadsTo (links s)) (links s .records) m before after
+    (loopFault s (length before) ≡ 0) × (0 < m) × ShowsRing (leadsTo (links s)) (links s .records) m before after
 ShowsLoop s before after (Refused k) = (k ≡ loopFault s (length before)) × (0 < k) × (after ≡ before)
 
 -- with a lent workspace: 14 for one that is too short, "before everything"

@@ -3,7 +3,7 @@ ghost use mathlib.Core.Path.{_≡_};
 ghost use Prim.Native.Nat.{_≤_};
 ghost use lib.ListN.{length};
 ghost use Rattle.rule_cells.specs.Cells.{table};
-ghost use Rattle.link_loops.specs.Loop.{Shows};
+ghost use Rattle.link_loops.specs.Loop.{ShowsRing};
 ghost use Rattle.show_loop.specs.Show.{leadsTo, ShowsLoop, ShowsLoopIn};
 use bundle::bundle_fault;
 use bundle::part_at;
@@ -33,7 +33,7 @@ fn show_columns(
     list: &mut [u32],
 ) -> usize
     requires { ⌜ (length (now from) ≤ 4096) × (length (now to) ≡ length (now from)) × (length (now from) ≤ length (now list)) ⌝ }
-    ensures { λ r. ⌜ Shows (leadsTo (table (now (s .entry)) (now (cells .entry)) width 0)) (length (now (from .entry))) r (now (list .entry)) (now (list .exit)) ⌝ }
+    ensures { λ r. ⌜ ShowsRing (leadsTo (table (now (s .entry)) (now (cells .entry)) width 0)) (length (now (from .entry))) r (now (list .entry)) (now (list .exit)) ⌝ }
 {
     fill_classes(s, cells, width, from, to);
     show_links(from, to, list)
@@ -42,7 +42,7 @@ fn show_columns(
 // Shows a loop of a table's links in columns of its own: how many records it has, 0 for none.
 fn show_table(s: &[u8], cells: &[u32], width: usize, records: usize, list: &mut [u32]) -> usize
     requires { ⌜ (records ≤ 4096) × (records ≤ length (now list)) ⌝ }
-    ensures { λ r. ⌜ Shows (leadsTo (table (now (s .entry)) (now (cells .entry)) width 0)) records r (now (list .entry)) (now (list .exit)) ⌝ }
+    ensures { λ r. ⌜ ShowsRing (leadsTo (table (now (s .entry)) (now (cells .entry)) width 0)) records r (now (list .entry)) (now (list .exit)) ⌝ }
 {
     let mut from = [0usize; 4096];
     let mut to = [0usize; 4096];

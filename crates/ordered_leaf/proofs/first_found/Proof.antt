@@ -4,20 +4,20 @@ use mathlib.Core.Path.{_≡_, sym, _∙_}
 use native.Mathlib.Nat.{sub-zero}
 use native.Mathlib.Omega.{arith}
 use borrow.Author.Needs.{needs}
-use Rattle.rule_cells.specs.Cells.{table, firstFrom, firstOf}
+use Rattle.rule_cells.specs.Cells.{table, firstFrom, firstThat}
 use Rattle.rule_cells.proofs.Laws.{search-hits, search-goes-on, search-ends}
-use Rattle.ordered_leaf.specs.Parents.{breaksLookup}
+use Rattle.ordered_leaf.specs.Parents.{leafBreaksLookup}
 use Rattle.ordered_leaf.proofs.first_found.Statement.{statement}
 use Rattle.ordered_leaf.proofs.first_found.Tie as tie
 
 abbrev Inv-loop : tie.InvT-loop
-Inv-loop s cells width records k u starts l sums order r₀ r = firstOf (breaksLookup (table s cells width 0) k (table u starts 1 0) l sums order) records ≡ firstFrom (breaksLookup (table s cells width 0) k (table u starts 1 0) l sums order) (records - r) r
+Inv-loop s cells width records k u starts l sums order r₀ r = firstThat (leafBreaksLookup (table s cells width 0) k (table u starts 1 0) l sums order) records ≡ firstFrom (leafBreaksLookup (table s cells width 0) k (table u starts 1 0) l sums order) (records - r) r
 
 abbrev μ-loop : tie.MeasureT-loop
 μ-loop s cells width records k u starts l sums order r₀ r = records - r
 
 loop-holds : tie.Need-loop-holds Inv-loop μ-loop
-unfolding firstOf
+unfolding firstThat
 loop-holds c = rw sub-zero
 
 breaks-lookup-requires : tie.Need-breaks-lookup-requires Inv-loop μ-loop
