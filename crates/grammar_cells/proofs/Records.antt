@@ -18,7 +18,7 @@ use Rattle.table_rows.specs.Rows.{Field}
 use Rattle.table_name.specs.Name.{indexOf, firstIn, nextAfter}
 use Rattle.table_name.specs.declared.Next.{Next}
 use Rattle.table_name.specs.declared.Next.the-variants.{More, Ends, Neither}
-use Rattle.table_record.specs.Record.{startCell, endCell, typeOf, cleared, Filled, cellsFilled, pairAt, isMissing, closedAt, pairsFrom, namedMembers as readMembers, recordHasRoom, recordAt}
+use Rattle.table_record.specs.Record.{startCell, endCell, typeOf, cleared, Filled, cellsFilled, pairAt, isMissing, closedAt, pairsFrom, membersOf as readMembers, recordHasRoom, recordAt}
 use Rattle.table_record.proofs.Bounds.{pair-in}
 use Rattle.table_record.proofs.Laws.{room-all}
 use Rattle.grammar.specs.Grammar.{Bytes, Spaces, Value, Members}

@@ -23,7 +23,7 @@ use Rattle.table_name.specs.declared.Next.the-variants.{More, Ends, Neither}
 use Rattle.table_record.specs.Record.{startCell, endCell, Filled}
 use Rattle.table_record.proofs.Bounds.{record-in}
 use Rattle.table_file.specs.declared.FileRead.{FileRead}
-use Rattle.table_file.specs.Table.{fault, TableRead, tableRead, endOfFile, singleRead, singleOf, singleAt, elementAt, elementsFrom, namedElements as readElements, arrayAt, readTable}
+use Rattle.table_file.specs.Table.{fault, TableRead, tableRead, endOfFile, singleRead, singleOf, singleAt, elementAt, elementsFrom, elementsOf as readElements, arrayAt, readTable}
 use Rattle.grammar.specs.Grammar.{Bytes, Spaces, Value, Elements, Text}
 use Rattle.grammar_machine.proofs.Machine.{spaces, value, inArray, afterElement, aText}
 use Rattle.grammar_machine.proofs.Places.{drop-byte, At}
