@@ -29,7 +29,7 @@ use Rattle.entries.proofs.Laws.{entries-long, entries-any, fits}
 use Rattle.gate_marks.specs.Work.{zeros, widthOf, roomOf, readOf}
 use Rattle.gate_marks.specs.Marks.{markRead, fileMark, tableOf}
 use Rattle.gate_marks.proofs.Rooms.{length-zeros}
-use Rattle.set_entries.specs.Entries.{fileEntries, entriesUpTo}
+use Rattle.set_entries.specs.Entries.{keyField, fileEntries, entriesUpTo}
 use Rattle.set_entries.specs.Work.{fileListed, listedUpTo}
 
 take-none : (l : List ℕ) → take 0 l ≡ []
@@ -49,16 +49,26 @@ there-is s k = go (isOmitted s k)
     go true = refl
     go false = refl
 
+-- ---- the field of a file's key
+module _ (file : ℕ) where
+  pub outline-field : file ≡ 15 → 1 ≡ keyField file
+  unfolding keyField
+  outline-field e = rw (eq-eqb file 15 e)
+
+  pub first-field : (file ≡ 15 → ⊥) → 0 ≡ keyField file
+  unfolding keyField
+  first-field n = rw (ne-eqb file 15 n)
+
+  pub few-fields : keyField file < 64
+  unfolding keyField
+  few-fields = go (eqb file 15)
+    where
+      go : (t : Bool) → cond t 1 0 < 64
+      go true = omega arith
+      go false = omega arith
+
 -- ---- one file
 module _ (e : Expected) (f : File) where
-  unreadable : (readOf e f .read .kind ≡ 0 → ⊥) → fileEntries e f ≡ []
-  unfolding fileEntries fileMark markRead
-  unreadable n = rw (ne-eqb (readOf e f .read .kind) 0 n)
-
-  readable : readOf e f .read .kind ≡ 0 → fileEntries e f ≡ entriesOf (tableOf e f) 0 (readOf e f .read .records)
-  unfolding fileEntries fileMark markRead tableOf
-  readable z = rw (eq-eqb (readOf e f .read .kind) 0 z)
-
   few-records : readOf e f .read .records ≤ 4096
   unfolding readOf
   few-records = file-records e f (zeros (roomOf (e .form)))
@@ -67,16 +77,26 @@ module _ (e : Expected) (f : File) where
   unfolding readOf
   cells-long = file-length e f (zeros (roomOf (e .form))) ∙ length-zeros (roomOf (e .form))
 
-  pub few-entries : length (fileEntries e f) ≤ 4096
+-- with its key in field k
+module _ (k : ℕ) (e : Expected) (f : File) where
+  unreadable : (readOf e f .read .kind ≡ 0 → ⊥) → fileEntries k e f ≡ []
+  unfolding fileEntries fileMark markRead
+  unreadable n = rw (ne-eqb (readOf e f .read .kind) 0 n)
+
+  readable : readOf e f .read .kind ≡ 0 → fileEntries k e f ≡ entriesOf (tableOf e f) k (readOf e f .read .records)
+  unfolding fileEntries fileMark markRead tableOf
+  readable z = rw (eq-eqb (readOf e f .read .kind) 0 z)
+
+  pub few-entries : length (fileEntries k e f) ≤ 4096
   few-entries = go (eqb (readOf e f .read .kind) 0) refl
     where
-      go : (t : Bool) → eqb (readOf e f .read .kind) 0 ≡ t → length (fileEntries e f) ≤ 4096
-      go true q = omega (arith, few-records, ap length (readable (eqb-true _ 0 q)) ∙ entries-long (tableOf e f) 0 (readOf e f .read .records))
+      go : (t : Bool) → eqb (readOf e f .read .kind) 0 ≡ t → length (fileEntries k e f) ≤ 4096
+      go true q = omega (arith, few-records e f, ap length (readable (eqb-true _ 0 q)) ∙ entries-long (tableOf e f) k (readOf e f .read .records))
       go false q = omega (arith, ap length (unreadable (eqb-false _ 0 q)))
 
-  pub listed-long : (at : ℕ) (work : List ℕ) → length (fileListed e f at work) ≡ length work
+  pub listed-long : (at : ℕ) (work : List ℕ) → length (fileListed k e f at work) ≡ length work
   unfolding fileListed
-  listed-long at work = written-length (written work 0 (readOf e f .cells)) at (flatOf (fileEntries e f)) ∙ written-length work 0 (readOf e f .cells)
+  listed-long at work = written-length (written work 0 (readOf e f .cells)) at (flatOf (fileEntries k e f)) ∙ written-length work 0 (readOf e f .cells)
 
   -- read into the front of a workspace
   module _ (there : Bool) (s : List ℕ) (there-is : there ≡ isPresent f) (s-is : s ≡ bytesOf f) (room : ℕ) (room-is : room ≡ roomOf (e .form)) (work : List ℕ) (room-fits : room ≤ length work)
@@ -89,7 +109,7 @@ module _ (e : Expected) (f : File) where
     read-same = read-is ∙ ap (λ t. t .read) same
 
     long : length (readOf e f .cells) ≡ room
-    long = cells-long ∙ sym room-is
+    long = cells-long e f ∙ sym room-is
 
     front : last ++ drop room work ≡ written work 0 (readOf e f .cells)
     front =
@@ -98,14 +118,14 @@ module _ (e : Expected) (f : File) where
         rw is (sym (written-fits work 0 (readOf e f .cells) (omega (arith, long)) ∙ whole))
 
     -- unreadable: no entries
-    pub none-listed : (read .kind ≡ 0 → ⊥) → (at : ℕ) → ((0 ≡ length (fileEntries e f)) × (0 ≤ 4096)) × (last ++ drop room work ≡ fileListed e f at work)
+    pub none-listed : (read .kind ≡ 0 → ⊥) → (at : ℕ) → ((0 ≡ length (fileEntries k e f)) × (0 ≤ 4096)) × (last ++ drop room work ≡ fileListed k e f at work)
     unfolding fileListed flatOf
     none-listed n at =
-        let none : fileEntries e f ≡ [] = unreadable (λ z. n (ap (λ (x : FileRead). x .kind) read-same ∙ z)) in
+        let none : fileEntries k e f ≡ [] = unreadable (λ z. n (ap (λ (x : FileRead). x .kind) read-same ∙ z)) in
         ((sym (ap length none), omega arith), front ∙ sym (written-nothing (written work 0 (readOf e f .cells)) at) ∙ rw none)
 
     -- readable: those of its table
-    module _ (holds : read .kind ≡ 0) (width : ℕ) (width-is : width ≡ widthOf (e .form)) (at : ℕ) (behind : room ≤ at) (enough : at + 16384 ≤ length work) where
+    module _ (holds : read .kind ≡ 0) (width : ℕ) (width-is : width ≡ widthOf (e .form)) (at : ℕ) (behind : room ≤ at) (enough : at + 16384 ≤ length work) (few-fields : k < 64) where
       abbrev now-read : List ℕ
       now-read = last ++ drop room work
 
@@ -117,20 +137,21 @@ module _ (e : Expected) (f : File) where
           let size : room - 0 ≡ length (readOf e f .cells) = omega (arith, long) in
           part-is now-read 0 room (omega arith) (omega (arith, now-long)) ∙ ap (λ w. take (room - 0) (drop 0 w)) front ∙ ap (λ m. take m (drop 0 (written work 0 (readOf e f .cells)))) size ∙ written-part work 0 (readOf e f .cells) (omega (arith, long))
 
-      entries-are : listedIn s now-read 0 room width 0 (read .records) at ≡ fileEntries e f
+      entries-are : listedIn s now-read 0 room width k (read .records) at ≡ fileEntries k e f
       unfolding tableOf
       entries-are =
           let n = readOf e f .read .records in
           let records-are : read .records ≡ n = ap (λ (x : FileRead). x .records) read-same in
-          fits s now-read 0 room width 0 (read .records) at (omega arith) behind (omega (arith, now-long)) (omega arith) (omega (arith, few-records))
-          ∙ rw (records-are, part-read, s-is, width-is) (entries-any (bytesOf f) (readOf e f .cells) (widthOf (e .form)) n 0 n)
+          fits s now-read 0 room width k (read .records) at (omega arith) behind (omega (arith, now-long)) few-fields (omega (arith, few-records e f))
+          ∙ rw (records-are, part-read, s-is, width-is) (entries-any (bytesOf f) (readOf e f .cells) (widthOf (e .form)) n k n)
           ∙ sym (readable (ap (λ (x : FileRead). x .kind) (sym read-same) ∙ holds))
 
-      pub all-listed : {r : ℕ} {work′ : List ℕ} → r ≡ length (listedIn s now-read 0 room width 0 (read .records) at) → work′ ≡ written now-read at (flatOf (listedIn s now-read 0 room width 0 (read .records) at))
-          → ((r ≡ length (fileEntries e f)) × (r ≤ 4096)) × (work′ ≡ fileListed e f at work)
+      pub all-listed : {field r : ℕ} {work′ : List ℕ} → field ≡ k → r ≡ length (listedIn s now-read 0 room width field (read .records) at) → work′ ≡ written now-read at (flatOf (listedIn s now-read 0 room width field (read .records) at))
+          → ((r ≡ length (fileEntries k e f)) × (r ≤ 4096)) × (work′ ≡ fileListed k e f at work)
       unfolding fileListed
-      all-listed r-is work-is =
-          ((r-is ∙ ap length entries-are, omega (arith, few-entries, r-is ∙ ap length entries-are)), work-is ∙ rw (entries-are, front))
+      all-listed field-is r-is work-is =
+          let count-is : _ ≡ length (fileEntries k e f) = r-is ∙ rw field-is (ap length entries-are) in
+          ((count-is, omega (arith, few-entries, count-is)), work-is ∙ rw (field-is, entries-are, front))
 
 -- ---- files one after the other
 module _ (expected : ℕ → Expected) (needed : ℕ → Bool) (files : ℕ → File) where
@@ -142,7 +163,7 @@ module _ (expected : ℕ → Expected) (needed : ℕ → Bool) (files : ℕ → 
     unfolding entriesUpTo
     entries-skip q = rw q (append-nil (entriesUpTo expected needed files n))
 
-    pub entries-more : needed (4 + n) ≡ true → entriesUpTo expected needed files (suc n) ≡ entriesUpTo expected needed files n ++ fileEntries (expected (4 + n)) (files (4 + n))
+    pub entries-more : needed (4 + n) ≡ true → entriesUpTo expected needed files (suc n) ≡ entriesUpTo expected needed files n ++ fileEntries (keyField (4 + n)) (expected (4 + n)) (files (4 + n))
     unfolding entriesUpTo
     entries-more q = rw q
 
@@ -169,15 +190,15 @@ module _ (expected : ℕ → Expected) (needed : ℕ → Bool) (files : ℕ → 
           work-long = so-far .work-long;
         }
 
-    pub listing-goes-on : t ≡ true → {at : ℕ} → at ≡ base + 4 * count → {more : ℕ} {last : List ℕ} → ((more ≡ length (fileEntries (expected (4 + i)) (files (4 + i)))) × (more ≤ 4096)) × (last ≡ fileListed (expected (4 + i)) (files (4 + i)) at work) → Listing base lent (i + 1) last (count + more)
+    pub listing-goes-on : t ≡ true → {at : ℕ} → at ≡ base + 4 * count → {more : ℕ} {last : List ℕ} → ((more ≡ length (fileEntries (keyField (4 + i)) (expected (4 + i)) (files (4 + i)))) × (more ≤ 4096)) × (last ≡ fileListed (keyField (4 + i)) (expected (4 + i)) (files (4 + i)) at work) → Listing base lent (i + 1) last (count + more)
     unfolding listedUpTo
     listing-goes-on e at-is are =
         let q : needed (4 + i) ≡ true = sym t-is ∙ e in
         record {
           work-is = are .1 ∙ rw (at-is, so-far .work-is, so-far .count-is, add-one i, q);
-          count-is = rw (add-one i, so-far .count-is, are .0 .0) (sym (ap length (entries-more i q) ∙ length-append (entriesUpTo expected needed files i) (fileEntries (expected (4 + i)) (files (4 + i)))));
+          count-is = rw (add-one i, so-far .count-is, are .0 .0) (sym (ap length (entries-more i q) ∙ length-append (entriesUpTo expected needed files i) (fileEntries (keyField (4 + i)) (expected (4 + i)) (files (4 + i)))));
           few = omega (arith, so-far .few, are .0 .1);
-          work-long = ap length (are .1) ∙ listed-long (expected (4 + i)) (files (4 + i)) _ work ∙ so-far .work-long;
+          work-long = ap length (are .1) ∙ listed-long (keyField (4 + i)) (expected (4 + i)) (files (4 + i)) _ work ∙ so-far .work-long;
         }
 
   pub listing-ends : {base : ℕ} {lent : List ℕ} {i : ℕ} {work : List ℕ} {count : ℕ} → Listing base lent i work count → i ≡ 16 → (count ≡ so-many 16) × (work ≡ listedUpTo expected needed files base 16 lent)

@@ -21,7 +21,7 @@ use Rattle.entries.specs.Flat.{entryNumbers, flatOf, entryIn, entriesIn}
 use Rattle.entries.proofs.Flat.{flat-long, flat-join, written-on}
 use Rattle.gate_marks.specs.Work.{roomFor, roomOf, roomStart, readOf, workAfter, workRead}
 use Rattle.gate_marks.proofs.Rooms.{room-next, room-grows, work-length}
-use Rattle.set_entries.specs.Entries.{fileEntries, entriesUpTo}
+use Rattle.set_entries.specs.Entries.{keyField, fileEntries, entriesUpTo}
 use Rattle.set_entries.specs.Work.{fileListed, listedUpTo}
 use Rattle.set_entries.proofs.Laws.{cells-long, few-entries, listed-long, entries-skip, entries-more}
 
@@ -73,11 +73,11 @@ module _ (expected : ℕ → Expected) (needed : ℕ → Bool) (files : ℕ → 
   abbrev ws : ℕ → List ℕ
   ws n = listedUpTo expected needed files base n lent
 
-  by-need : (P : List Entry → List ℕ → Type 0) (n : ℕ) → (needed (4 + n) ≡ false → P (es n) (ws n)) → (needed (4 + n) ≡ true → P (es n ++ fileEntries (expected (4 + n)) (files (4 + n))) (fileListed (expected (4 + n)) (files (4 + n)) (base + 4 * length (es n)) (ws n))) → P (es (suc n)) (ws (suc n))
+  by-need : (P : List Entry → List ℕ → Type 0) (n : ℕ) → (needed (4 + n) ≡ false → P (es n) (ws n)) → (needed (4 + n) ≡ true → P (es n ++ fileEntries (keyField (4 + n)) (expected (4 + n)) (files (4 + n))) (fileListed (keyField (4 + n)) (expected (4 + n)) (files (4 + n)) (base + 4 * length (es n)) (ws n))) → P (es (suc n)) (ws (suc n))
   unfolding listedUpTo
   by-need P n skip more = go (needed (4 + n)) refl
     where
-      go : (t : Bool) → needed (4 + n) ≡ t → P (es (suc n)) (cond t (fileListed (expected (4 + n)) (files (4 + n)) (base + 4 * length (es n)) (ws n)) (ws n))
+      go : (t : Bool) → needed (4 + n) ≡ t → P (es (suc n)) (cond t (fileListed (keyField (4 + n)) (expected (4 + n)) (files (4 + n)) (base + 4 * length (es n)) (ws n)) (ws n))
       go true q = rw (entries-more expected needed files n q) (more q)
       go false q = rw (entries-skip expected needed files n q) (skip q)
 
@@ -86,13 +86,13 @@ module _ (expected : ℕ → Expected) (needed : ℕ → Bool) (files : ℕ → 
   entries-few zero = omega arith
   entries-few (suc n) =
       by-need (λ e w. length e ≤ 4096 * suc n) n (λ q. omega (arith, entries-few n))
-      (λ q. omega (arith, entries-few n, length-append (es n) (fileEntries (expected (4 + n)) (files (4 + n))), few-entries (expected (4 + n)) (files (4 + n))))
+      (λ q. omega (arith, entries-few n, length-append (es n) (fileEntries (keyField (4 + n)) (expected (4 + n)) (files (4 + n))), few-entries (keyField (4 + n)) (expected (4 + n)) (files (4 + n))))
 
   listed-length : (n : ℕ) → length (ws n) ≡ length lent
   unfolding listedUpTo
   listed-length zero = refl
   listed-length (suc n) =
-      by-need (λ e w. length w ≡ length lent) n (λ q. listed-length n) (λ q. listed-long (expected (4 + n)) (files (4 + n)) (base + 4 * length (es n)) (ws n) ∙ listed-length n)
+      by-need (λ e w. length w ≡ length lent) n (λ q. listed-length n) (λ q. listed-long (keyField (4 + n)) (expected (4 + n)) (files (4 + n)) (base + 4 * length (es n)) (ws n) ∙ listed-length n)
 
   pub stand-listed : (n : ℕ) → base + 16384 * n ≤ length lent → Stands (ws n) base (flatOf (es n))
   unfolding listedUpTo entriesUpTo flatOf fileListed
@@ -100,14 +100,15 @@ module _ (expected : ℕ → Expected) (needed : ℕ → Bool) (files : ℕ → 
   stand-listed (suc n) l =
       by-need (λ e w. Stands w base (flatOf e)) n (λ q. stand-listed n (omega arith))
       (λ q.
+      let k = keyField (4 + n) in
       let e = expected (4 + n) in
       let f = files (4 + n) in
       let long : length (flatOf (es n)) ≡ 4 * length (es n) = flat-long (es n) in
-      let more : length (flatOf (fileEntries e f)) ≡ 4 * length (fileEntries e f) = flat-long (fileEntries e f) in
+      let more : length (flatOf (fileEntries k e f)) ≡ 4 * length (fileEntries k e f) = flat-long (fileEntries k e f) in
       let w = written (ws n) 0 (readOf e f .cells) in
       let before : Stands w base (flatOf (es n)) = stands-behind (ws n) base (flatOf (es n)) 0 (readOf e f .cells) (omega (arith, cells-long e f, form-most (e .form), behind)) (stand-listed n (omega arith)) in
-      rw (flat-join (es n) (fileEntries e f), ← long)
-      (stands-on w base (flatOf (es n)) (flatOf (fileEntries e f)) (omega (arith, entries-few n, few-entries e f, long, more, l, written-length (ws n) 0 (readOf e f .cells), listed-length n)) before))
+      rw (flat-join (es n) (fileEntries k e f), ← long)
+      (stands-on w base (flatOf (es n)) (flatOf (fileEntries k e f)) (omega (arith, entries-few n, few-entries k e f, long, more, l, written-length (ws n) 0 (readOf e f .cells), listed-length n)) before))
 
 -- ---- reading files into their places leaves what is behind them
 module _ (expected : ℕ → Expected) (needed : ℕ → Bool) (files : ℕ → File) (base : ℕ) (v work : List ℕ) where

@@ -16,7 +16,7 @@ use Rattle.gate_marks.specs.declared.Scope.the-variants.{Full, Change}
 use Rattle.gate_marks.specs.Gate.{Gate}
 use Rattle.gate_marks.specs.Work.{readOf}
 use Rattle.gate_marks.specs.Again.{isNeeded, workspaceOf}
-use Rattle.set_entries.specs.Entries.{fileEntries, entriesUpTo, setEntries}
+use Rattle.set_entries.specs.Entries.{keyField, fileEntries, entriesUpTo, setEntries}
 
 -- the files that are judged: those of a bundle, or as they stand after a change of one of them to f
 unfoldable pub filesIn : List ℕ → Scope → File → ℕ → File
@@ -25,13 +25,13 @@ filesIn s (Change k) f = filesAfter s k f
 filesIn s (Scope.Mark m) f = fileAt s
 
 -- one file's cells at the front and its entries at a place
-unfoldable pub fileListed : Expected → File → ℕ → List ℕ → List ℕ
-fileListed e f at work = written (written work 0 (readOf e f .cells)) at (flatOf (fileEntries e f))
+unfoldable pub fileListed : ℕ → Expected → File → ℕ → List ℕ → List ℕ
+fileListed k e f at work = written (written work 0 (readOf e f .cells)) at (flatOf (fileEntries k e f))
 
 unfoldable pub listedUpTo : (ℕ → Expected) → (ℕ → Bool) → (ℕ → File) → ℕ → ℕ → List ℕ → List ℕ
 listedUpTo expected needed files base zero work = work
 listedUpTo expected needed files base (suc n) work =
-    cond (needed (4 + n)) (fileListed (expected (4 + n)) (files (4 + n)) (base + 4 * length (entriesUpTo expected needed files n)) (listedUpTo expected needed files base n work))
+    cond (needed (4 + n)) (fileListed (keyField (4 + n)) (expected (4 + n)) (files (4 + n)) (base + 4 * length (entriesUpTo expected needed files n)) (listedUpTo expected needed files base n work))
     (listedUpTo expected needed files base n work)
 
 -- ---- The workspace of the calls with a list: behind the cells, four numbers for each entry that there can be, 4,096 for each of

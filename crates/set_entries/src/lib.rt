@@ -9,7 +9,7 @@ ghost use Rattle.rule_shape.specs.Rule.{ruleFrom};
 ghost use Rattle.gate_marks.specs.Gate.{expectedIn};
 ghost use Rattle.gate_marks.specs.Again.{needed};
 ghost use Rattle.schedule.specs.Schedule.{schedule};
-ghost use Rattle.set_entries.specs.Entries.{fileEntries, entriesUpTo};
+ghost use Rattle.set_entries.specs.Entries.{keyField, fileEntries, entriesUpTo};
 ghost use Rattle.set_entries.specs.Work.{filesIn, fileListed, listedUpTo, countListed, workListed};
 use bundle::is_omitted;
 use bundle::is_present_after;
@@ -55,6 +55,17 @@ fn part_there<'a>(
     }
 }
 
+// The first field of the key of file k, counted within its table: in TaskOutlineStructure it stands
+// behind Level.
+fn key_field(k: usize) -> usize
+    ensures { λ r. ⌜ r ≡ keyField k ⌝ }
+{
+    if k == 15 {
+        return 1;
+    }
+    0
+}
+
 // Reads file k into the front of the workspace and writes its entries from a place on; answers how many
 // these are.
 fn list_file<'a>(
@@ -71,9 +82,10 @@ fn list_file<'a>(
     at: usize,
 ) -> usize
     requires { ⌜ (524288 ≤ at) × (at + 16384 ≤ length (now work)) ⌝ }
-    ensures { λ r. ⌜ (r ≡ length (fileEntries (expectedIn (now (forms .entry)) (now (fields .entry)) (now (names .entry)) (now (fixed .entry)) k) (filesIn (now (bundle .entry)) scope (newFile present (now (new .entry))) k))) × (r ≤ 4096) ⌝ }
-    ensures { λ _. ⌜ now (work .exit) ≡ fileListed (expectedIn (now (forms .entry)) (now (fields .entry)) (now (names .entry)) (now (fixed .entry)) k) (filesIn (now (bundle .entry)) scope (newFile present (now (new .entry))) k) at (now (work .entry)) ⌝ }
+    ensures { λ r. ⌜ (r ≡ length (fileEntries (keyField k) (expectedIn (now (forms .entry)) (now (fields .entry)) (now (names .entry)) (now (fixed .entry)) k) (filesIn (now (bundle .entry)) scope (newFile present (now (new .entry))) k))) × (r ≤ 4096) ⌝ }
+    ensures { λ _. ⌜ now (work .exit) ≡ fileListed (keyField k) (expectedIn (now (forms .entry)) (now (fields .entry)) (now (names .entry)) (now (fixed .entry)) k) (filesIn (now (bundle .entry)) scope (newFile present (now (new .entry))) k) at (now (work .entry)) ⌝ }
 {
+    let field = key_field(k);
     let there = is_there(bundle, scope, present, new, k);
     let s = part_there(bundle, scope, present, new, k);
     let room = room_of(forms, fields, k);
@@ -82,7 +94,7 @@ fn list_file<'a>(
         return 0;
     }
     let width = width_of(forms, fields, k);
-    list_table(s, work, 0, room, width, 0, read.records, at)
+    list_table(s, work, 0, room, width, field, read.records, at)
 }
 
 // The entries of files 4 to 19, of those that are read, from a place behind the cells on.
