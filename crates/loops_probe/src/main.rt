@@ -1,0 +1,140 @@
+// Answers cases of the loops (document 02, order 14), so that a test can ask the compiled code thousands of
+// them in one run. All numbers are little-endian u32. A case on standard input is four numbers (the lengths of
+// the bundle and of the list, a seed, 0) and the bundle; entry i of the list is before the seed and 7 i
+// together, its lowest 32 bits. The answer is a tag (0 nothing, 1 a ring, 2 refused), the ring's length or the
+// refusal, else 0, and the whole list.
+// The workspace is lent, and holds what the case before left in it. The program ends where the input does, and
+// at a case that is too long.
+use bundle_bytes::put_word;
+use bundle_bytes::word_at;
+use libc::STDIN_FILENO;
+use libc::STDOUT_FILENO;
+use parts::part;
+use program_io::fill;
+use show_loop::Shown;
+use show_loop::show_loop_in;
+
+// Fills the front of a buffer, where it is long enough.
+fn fill_front(buf: &mut [u8], n: usize) -> bool {
+    if buf.len() < n {
+        return false;
+    }
+    fill(STDIN_FILENO, &mut buf[..n])
+}
+
+fn low(x: usize) -> u32 {
+    (x % 4294967296) as u32
+}
+
+fn pattern(seed: u32, i: usize) -> u32 {
+    low(seed as usize + i % 4294967296 * 7)
+}
+
+// Puts the pattern into a list.
+fn lay(list: &mut [u32], seed: u32) {
+    let mut i = 0;
+    while i < list.len() {
+        list[i] = pattern(seed, i);
+        i += 1;
+    }
+}
+
+fn tag_of(shown: Shown) -> u32 {
+    match shown {
+        Shown::Nothing => 0,
+        Shown::Ring(_) => 1,
+        Shown::Refused(_) => 2,
+    }
+}
+
+fn number_of(shown: Shown) -> u32 {
+    match shown {
+        Shown::Nothing => 0,
+        Shown::Ring(m) => low(m),
+        Shown::Refused(k) => k,
+    }
+}
+
+// Puts a list of up to 5,000 numbers behind the tag and the number.
+fn put_list(out: &mut [u8], list: &[u32]) {
+    if 5000 < list.len() {
+        return;
+    }
+    let mut i = 0;
+    while i < list.len() {
+        put_word(out, 8 + 4 * i, list[i]);
+        i += 1;
+    }
+}
+
+fn write_shown(shown: Shown, list: &[u32], out: &mut [u8]) -> bool {
+    put_word(out, 0, tag_of(shown));
+    put_word(out, 4, number_of(shown));
+    put_list(out, list);
+    io::write_all(STDOUT_FILENO, out)
+}
+
+fn answer_case(
+    bundle: &[u8],
+    seed: u32,
+    list: &mut [u32],
+    work: &mut [u32],
+    out: &mut [u8],
+) -> bool {
+    lay(list, seed);
+    let shown = show_loop_in(bundle, work, list);
+    write_shown(shown, list, out)
+}
+
+// Answers a case with a list of m numbers, where that is not too long.
+fn answer_list(
+    bundle: &[u8],
+    seed: u32,
+    m: usize,
+    list: &mut [u32],
+    work: &mut [u32],
+    out: &mut [u8],
+) -> bool {
+    if 5000 < m {
+        return false;
+    }
+    if list.len() < m {
+        return false;
+    }
+    let size = 8 + 4 * m;
+    if out.len() < size {
+        return false;
+    }
+    answer_case(bundle, seed, &mut list[..m], work, &mut out[..size])
+}
+
+// Answers the next case; whether to go on.
+fn answer(buf: &mut [u8], list: &mut [u32], work: &mut [u32], out: &mut [u8]) -> bool {
+    let mut head = [0u8; 16];
+    if !fill(STDIN_FILENO, &mut head) {
+        return false;
+    }
+    let n = word_at(&head, 0) as usize;
+    if !fill_front(buf, n) {
+        return false;
+    }
+    let m = word_at(&head, 4) as usize;
+    answer_list(part(buf, 0, n), word_at(&head, 8), m, list, work, out)
+}
+
+// A proved loop has to end, and nothing says that the input does. So the loop counts its turns
+// down, from a number that no run uses up.
+fn answer_all(buf: &mut [u8], list: &mut [u32], work: &mut [u32], out: &mut [u8]) {
+    let mut turns = u64::MAX;
+    while turns > 0 && answer(buf, list, work, out) {
+        turns -= 1;
+    }
+}
+
+fn main() {
+    let mut buf = [0u8; 1048577];
+    let mut list = [0u32; 5000];
+    let mut work = [0xA5A5A5A5u32; 40960];
+    let mut out = [0u8; 20008];
+    answer_all(&mut buf, &mut list, &mut work, &mut out);
+}
