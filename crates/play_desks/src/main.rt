@@ -196,7 +196,7 @@ fn gather_in(i: usize, file: &mut [u8], bundle: &mut [u8], other: &mut [u8]) -> 
     if folder == 0 {
         return 0;
     }
-    gather(&mut path, folder, file, bundle, other)
+    gather(Which::Schedule, &mut path, folder, file, bundle, other)
 }
 
 fn gather_folder(i: usize, file: &mut [u8], bundle: &mut [u8]) -> usize {

@@ -11,6 +11,7 @@ use folder::argument;
 use folder::gather;
 use folder::read_named;
 use gate::judge_in;
+use gate_lists::Which;
 use libc::STDERR_FILENO;
 use libc::STDOUT_FILENO;
 use output::put_number;
@@ -102,7 +103,7 @@ fn read_set(
         return Found::Failed;
     }
     if is_folder(path, n) {
-        let size = gather(path, n, file, bundle, other);
+        let size = gather(Which::Schedule, path, n, file, bundle, other);
         if size == 0 {
             return Found::Failed;
         }
