@@ -28,7 +28,8 @@ use Rattle.key_order.specs.Order.{sumsOf, inKeyOrder, areFit, sumsAfter, orderA
 use Rattle.key_order.proofs.Lists.{fit-sums, fit-order}
 use Rattle.key_lookup.specs.Lookup.{keyOf}
 use Rattle.key_lookup.proofs.Laws.{found-exactly}
-use Rattle.ordered_target.proofs.Laws.{only, only-has}
+use Rattle.ordered_target.specs.Found.{only}
+use Rattle.ordered_target.proofs.Laws.{only-has}
 use Rattle.ordered_leaf.specs.Parents.{picked, parentStarts, namesOne, leafBreaksLookup}
 
 -- ---- what is picked out
