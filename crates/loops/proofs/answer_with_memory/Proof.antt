@@ -1,31 +1,28 @@
--- `loops::answer_with_memory` meets its contract.
-use Prim.Native.Nat.{ℕ, _+_, _-_, _≤_, _<_}
-use mathlib.Core.Path.{_≡_, refl, sym, ap, _∙_}
-use native.Mathlib.Omega.{arith}
-use lib.ListN.{length, take, drop, getD}
-use borrow.Author.Needs.{needs}
+-- `loops::answer_with_memory` is safe and ends. The lengths of its large arrays are known by a law, not counted.
+-- Assumes nothing.
+use Prim.Native.Nat.{ℕ}
+use mathlib.Core.Path.{sym}
+use lib.ListN.{length-replicate}
 use Rattle.loops.proofs.answer_with_memory.Statement.{statement}
 use Rattle.loops.proofs.answer_with_memory.Tie as tie
-use Rattle.loops.proofs.answer_with_memory.Reads as reads
-use Rattle.loops.proofs.answer_with_memory.Lts as lts
-use Rattle.loops.proofs.answer.Reads as answer-reads
 
--- src/main.rt:42:23
 slice-aggregate-answer : tie.Need-slice-aggregate-answer
-slice-aggregate-answer c = search needs
+slice-aggregate-answer c = sym (length-replicate {A = ℕ} 65537 0)
 
--- src/main.rt:42:36
 slice-aggregate-answer-2 : tie.Need-slice-aggregate-answer-2
-slice-aggregate-answer-2 c = omega arith
+slice-aggregate-answer-2 c = sym (length-replicate {A = ℕ} 1280000 0)
 
--- src/main.rt:42:5
 answer-requires : tie.Need-answer-requires
-answer-requires c κs = search needs
+answer-requires c κs = tt
 
--- src/main.rt:39:1
 returns : tie.Need-returns
-returns c = search needs
+returns c = tt
 
 pub answer-with-memory-spec : {M : Type 1} → statement M
 answer-with-memory-spec =
-    tie.close (tie.spec slice-aggregate-answer slice-aggregate-answer-2 answer-requires returns)
+    tie.close
+    (tie.spec
+    slice-aggregate-answer
+    slice-aggregate-answer-2
+    answer-requires
+    returns)
