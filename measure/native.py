@@ -74,7 +74,7 @@ def take_module(kit, own, out, crate):
     said = subprocess.run(words, capture_output=True, text=True)
     if not os.path.exists(module):
         sys.exit('native.py: the toolchain made no module:\n' + said.stdout + said.stderr)
-    calls = re.findall(r'#\[no_mangle\]\s*pub extern "C" fn (\w+)\((.*?)\)', text, flags=re.S)
+    calls = re.findall(r'#\[no_mangle\]\s*pub extern "C" fn (\w+)(?:<[^>]*>)?\((.*?)\)', text, flags=re.S)
     return module, {name: [word.partition(':')[2] for word in given.split(',') if ':' in word] for name, given in calls}
 
 
