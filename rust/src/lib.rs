@@ -12,6 +12,7 @@
 use std::fmt;
 
 pub mod desks;
+pub mod drawer;
 pub mod loops;
 pub mod quarter;
 
