@@ -57,16 +57,23 @@ fn reading_4_the_list_is_untouched_but_for_the_loop() {
 
 #[test]
 fn reading_5_the_program_prints_a_line() {
-    assert_eq!(loop_text(&bundle_of(&[("A", "B"), ("x", "X")])), "2\n");
-    assert_eq!(loop_text(&bundle_of(&[("A", "B")])), "none\n");
-    assert_eq!(loop_text(b""), "bundle 1\n");
-    assert_eq!(loop_text(&Set::empty().with(14, "{").bundle()), "bundle 12\n");
+    let printed = |bundle: &[u8]| loop_text(bundle, false);
+    assert_eq!(printed(&bundle_of(&[("A", "B"), ("x", "X")])), "2\n");
+    assert_eq!(printed(&bundle_of(&[("A", "B")])), "none\n");
+    assert_eq!(printed(b""), "bundle 1\n");
+    assert_eq!(printed(&Set::empty().with(14, "{").bundle()), "bundle 12\n");
     let long = Set::empty().with(14, &format!("[{}]", " ".repeat(65_536 - 164 - 2)));
-    assert_eq!(loop_text(&long.bundle()), "none\n");
+    assert_eq!(printed(&long.bundle()), "none\n");
     let longer = Set::empty().with(14, &format!("[{}]", " ".repeat(65_536 - 164 - 1)));
-    assert_eq!(loop_text(&longer.bundle()), "bundle 1\n");
-    let ring = loop_text(&bundle_of(&[("A", "B"), ("B", "C"), ("C", "A")]));
+    assert_eq!(printed(&longer.bundle()), "bundle 1\n");
+    let ring = printed(&bundle_of(&[("A", "B"), ("B", "C"), ("C", "A")]));
     assert!(["1 2 3\n", "2 3 1\n", "3 1 2\n"].contains(&&ring[..]));
+    let explained = loop_text(&bundle_of(&[("b", "c"), ("a\\/", "A/")]), true);
+    let line = r#"TaskRelationships record 2: SuccessorTaskID "A/" waits for PredecessorTaskID "a\/""#;
+    let end = " and leads back to record 2. Take a link of the loop out.\n";
+    assert_eq!(explained, format!("2\n{line}{end}"));
+    assert_eq!(loop_text(&bundle_of(&[("A", "B")]), true), "none\n");
+    assert_eq!(loop_text(b"", true), "bundle 1\n");
 }
 
 /// There is a loop exactly if links stay once those are taken away, again and
