@@ -167,8 +167,8 @@ fn wrong_lists_are_caught() {
     // A list that is too short is only refused in its case.
     let refused = answers.iter().filter(|(_, answer)| answer.refusal == 8).count();
     assert!(refused > 200, "{refused}");
-    let filled = answers.iter().filter(|(case, answer)| {
-        answer.refusal == 0 && answer.list != list_before(case.list)
-    });
+    let filled = answers
+        .iter()
+        .filter(|(case, answer)| answer.refusal == 0 && answer.list != list_before(case.list));
     assert!(filled.count() > 500);
 }

@@ -223,7 +223,10 @@ impl Question for ListedCase {
             lines.push(format!("  new {}", hex(new, LONGEST_SHOWN)));
         }
         let head = |answer: &Answer| {
-            format!("refusal {} length {} entries {}", answer.refusal, answer.length, answer.entries)
+            format!(
+                "refusal {} length {} entries {}",
+                answer.refusal, answer.length, answer.entries
+            )
         };
         if head(expected) != head(answered) {
             lines.push(format!("  expected {}", head(expected)));
