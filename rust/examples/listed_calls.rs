@@ -55,7 +55,7 @@ fn judges(count: &mut Count) {
     count.expect("gives the same list", other == list);
     let mut short = [X; 2];
     count.expect("a list too short", judge(&bundle, &mut short) == Err(Refusal(8)) && short == [X; 2]);
-    count.expect("in words", !Refusal(8).to_string().is_empty());
+    count.expect("8 in words", !Refusal(8).in_words().is_empty());
     count.expect("no bundle", judge(&[], &mut []) == Err(Refusal(1)));
     work.pop();
     count.expect("a short workspace", judge_in(&[], &mut short, &mut work) == Err(Refusal(14)));
