@@ -13,6 +13,7 @@ use std::fmt;
 
 pub mod desks;
 pub mod drawer;
+pub mod listed;
 pub mod loops;
 pub mod quarter;
 
@@ -70,7 +71,7 @@ pub struct Board {
     pub companions: Vec<usize>,
 }
 
-/// Why a call is refused, by its number: document 01's 1 to 6, 7 for a mark number that is too high, 9 to 13 by the modules beside this
+/// Why a call is refused, by its number: document 01's 1 to 6, 7 for a mark number that is too high, 8 to 13 by the modules beside this
 /// one, 14 where a lent workspace is too short, 100 for a board of another length than its gate's, 102 where there is no memory for a
 /// workspace. In words by `Display`.
 #[derive(Clone, Copy, Debug, PartialEq, Eq)]
