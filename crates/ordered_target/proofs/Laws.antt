@@ -22,11 +22,11 @@ use Rattle.key_order.proofs.Lists.{fit-sums, fit-order}
 use Rattle.key_lookup.specs.declared.Lookup.{Lookup}
 use Rattle.key_lookup.specs.Lookup.{keyOf, hasTexts, isFound}
 use Rattle.key_lookup.proofs.Laws.{found-exactly}
-use Rattle.ordered_target.specs.Found.{only}
+use Rattle.ordered_target.specs.Found.{oneText}
 
-pub only-has : (u : Table) (m : ℕ) (text : List ℕ) (q : ℕ) → hasTexts u (only m) text q ≡ sameAs Folded text (textOf u q m)
+pub one-text-has : (u : Table) (m : ℕ) (text : List ℕ) (q : ℕ) → hasTexts u (oneText m) text q ≡ sameAs Folded text (textOf u q m)
 unfolding hasTexts
-only-has u m text q = go (sameAs Folded text (textOf u q m))
+one-text-has u m text q = go (sameAs Folded text (textOf u q m))
   where
     go : (b : Bool) → (b && true) ≡ b
     go true = refl
@@ -37,18 +37,18 @@ none-above zero = refl
 none-above (suc k) = rw (lt-ltb 0 (suc k) (omega arith), ne-eqb (suc k) 0 (λ z. omega arith))
 
 -- some target record has the text exactly if it is found
-not-found : (s cells : List ℕ) (width n m : ℕ) (text : List ℕ) → not (isFound (table s cells width 0) (only m) (sumsOf (table s cells width 0) m n) (inKeyOrder (table s cells width 0) (keyOf (only m)) n) text) ≡ eqb (targetOf text (table s cells width n) m) 0
+not-found : (s cells : List ℕ) (width n m : ℕ) (text : List ℕ) → not (isFound (table s cells width 0) (oneText m) (sumsOf (table s cells width 0) m n) (inKeyOrder (table s cells width 0) (keyOf (oneText m)) n) text) ≡ eqb (targetOf text (table s cells width n) m) 0
 unfolding targetOf
 not-found s cells width n m text =
-    ap not (found-exactly (table s cells width 0) (only m) n text) ∙ none-above (firstThat (hasTexts (table s cells width 0) (only m) text) n)
-    ∙ ap (λ (f : ℕ → Bool). eqb (firstThat f n) 0) (fun-ext (only-has (table s cells width 0) m text))
+    ap not (found-exactly (table s cells width 0) (oneText m) n text) ∙ none-above (firstThat (hasTexts (table s cells width 0) (oneText m) text) n)
+    ∙ ap (λ (f : ℕ → Bool). eqb (firstThat f n) 0) (fun-ext (one-text-has (table s cells width 0) m text))
 
 -- the same of what a lookup in lists that hold this order told
-pub looked-up : (s cells : List ℕ) (width n m : ℕ) (text sums order : List ℕ) (x : Bool) → sums ≡ sumsOf (table s cells width 0) m n → order ≡ inKeyOrder (table s cells width 0) (keyOf (only m)) n → x ≡ isFound (table s cells width 0) (only m) sums order text → not x ≡ eqb (targetOf text (table s cells width n) m) 0
+pub looked-up : (s cells : List ℕ) (width n m : ℕ) (text sums order : List ℕ) (x : Bool) → sums ≡ sumsOf (table s cells width 0) m n → order ≡ inKeyOrder (table s cells width 0) (keyOf (oneText m)) n → x ≡ isFound (table s cells width 0) (oneText m) sums order text → not x ≡ eqb (targetOf text (table s cells width n) m) 0
 looked-up s cells width n m text sums order x e f g = rw (g, e, f) (not-found s cells width n m text)
 
 -- what the lent lists hold once they are filled
-pub filled : (u : Table) (n m : ℕ) (l : Lookup) (key : Key) (sums order scratch sums′ order′ : List ℕ) → l ≡ only m → key ≡ keyOf l → length order ≡ n → areFit sums order scratch ≡ true → sums′ ≡ sumsAfter u key sums order scratch → order′ ≡ orderAfter u key sums order scratch → (sums′ ≡ sumsOf u m n) × (order′ ≡ inKeyOrder u (keyOf (only m)) n)
+pub filled : (u : Table) (n m : ℕ) (l : Lookup) (key : Key) (sums order scratch sums′ order′ : List ℕ) → l ≡ oneText m → key ≡ keyOf l → length order ≡ n → areFit sums order scratch ≡ true → sums′ ≡ sumsAfter u key sums order scratch → order′ ≡ orderAfter u key sums order scratch → (sums′ ≡ sumsOf u m n) × (order′ ≡ inKeyOrder u (keyOf (oneText m)) n)
 filled u n m l key sums order scratch sums′ order′ a b h fit e f =
     (e ∙ fit-sums sums order scratch u key fit ∙ rw (b, a, h), f ∙ fit-order sums order scratch u key fit ∙ rw (b, a, h))
 

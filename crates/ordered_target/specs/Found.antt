@@ -3,5 +3,5 @@ use Prim.Native.Nat.{ℕ}
 use Rattle.key_lookup.specs.declared.Lookup.{Lookup}
 
 -- a text in field m alone
-abbrev pub only : ℕ → Lookup
-only m = record { m = m; k = 0; kind = 0; also = 0 }
+abbrev pub oneText : ℕ → Lookup
+oneText m = record { m = m; k = 0; kind = 0; also = 0 }

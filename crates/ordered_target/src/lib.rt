@@ -14,7 +14,7 @@ ghost use Rattle.rule_when.specs.When.{holdsWhen};
 ghost use Rattle.rule_target.specs.Target.{targetOf, breaksTarget, targetRule};
 ghost use Rattle.key_order.specs.Order.{sumsOf, inKeyOrder, areFit};
 ghost use Rattle.key_lookup.specs.Lookup.{keyOf, isFound};
-ghost use Rattle.ordered_target.specs.Found.{only};
+ghost use Rattle.ordered_target.specs.Found.{oneText};
 use json_same::Case;
 use json_same::same_text;
 use key_lookup::Lookup;
@@ -135,8 +135,8 @@ fn guess_record(
 }
 
 // A text in field m alone.
-fn only(m: usize) -> Lookup
-    ensures { λ r. ⌜ r ≡ only m ⌝ }
+fn one_text(m: usize) -> Lookup
+    ensures { λ r. ⌜ r ≡ oneText m ⌝ }
 {
     Lookup {
         m,
@@ -177,10 +177,10 @@ fn look_up(
     sums: &[u32],
     order: &[u32],
 ) -> Near
-    ensures { λ x. ⌜ x .found ≡ isFound (table (now (u .entry)) (now («u_cells» .entry)) «u_width» 0) (only m) (now (sums .entry)) (now (order .entry)) (charsAt (now (s .entry)) at) ⌝ }
+    ensures { λ x. ⌜ x .found ≡ isFound (table (now (u .entry)) (now («u_cells» .entry)) «u_width» 0) (oneText m) (now (sums .entry)) (now (order .entry)) (charsAt (now (s .entry)) at) ⌝ }
 {
     let sum = key_sum(s, at);
-    let i = place_of(s, at, sum, u, u_cells, u_width, only(m), sums, order);
+    let i = place_of(s, at, sum, u, u_cells, u_width, one_text(m), sums, order);
     if i < order.len() {
         return compare_with(s, at, u, u_cells, u_width, m, order[i]);
     }
@@ -207,7 +207,7 @@ fn find_record(
     order: &[u32],
     near: usize,
 ) -> Near
-    requires { ⌜ (now sums ≡ sumsOf (table (now u) (now «u_cells») «u_width» 0) (t .m) «u_records») × (now order ≡ inKeyOrder (table (now u) (now «u_cells») «u_width» 0) (keyOf (only (t .m))) «u_records») ⌝ }
+    requires { ⌜ (now sums ≡ sumsOf (table (now u) (now «u_cells») «u_width» 0) (t .m) «u_records») × (now order ≡ inKeyOrder (table (now u) (now «u_cells») «u_width» 0) (keyOf (oneText (t .m))) «u_records») ⌝ }
     ensures { λ x. ⌜ not (x .found) ≡ breaksTarget (table (now (s .entry)) (now (cells .entry)) width 0) (t .k) (t .when) (table (now (u .entry)) (now («u_cells» .entry)) «u_width» «u_records») (t .m) (now (places .entry)) (now (texts .entry)) r ⌝ }
 {
     let tried = guess_record(
@@ -290,7 +290,7 @@ fn first_unfound(
     order: &[u32],
     from: Reached,
 ) -> usize
-    requires { ⌜ (now sums ≡ sumsOf (table (now u) (now «u_cells») «u_width» 0) (t .m) «u_records») × (now order ≡ inKeyOrder (table (now u) (now «u_cells») «u_width» 0) (keyOf (only (t .m))) «u_records») ⌝ }
+    requires { ⌜ (now sums ≡ sumsOf (table (now u) (now «u_cells») «u_width» 0) (t .m) «u_records») × (now order ≡ inKeyOrder (table (now u) (now «u_cells») «u_width» 0) (keyOf (oneText (t .m))) «u_records») ⌝ }
     ensures { λ x. ⌜ x ≡ firstFrom (breaksTarget (table (now (s .entry)) (now (cells .entry)) width 0) (t .k) (t .when) (table (now (u .entry)) (now («u_cells» .entry)) «u_width» «u_records») (t .m) (now (places .entry)) (now (texts .entry))) (records - from .record) (from .record) ⌝ }
 {
     let mut r = from.record;
@@ -342,7 +342,15 @@ fn unfound_in_order(
     requires { ⌜ (areFit (now sums) (now order) (now scratch) ≡ true) × (length (now order) ≡ «u_records») ⌝ }
     ensures { λ x. ⌜ x ≡ firstFrom (breaksTarget (table (now (s .entry)) (now (cells .entry)) width 0) (t .k) (t .when) (table (now (u .entry)) (now («u_cells» .entry)) «u_width» «u_records») (t .m) (now (places .entry)) (now (texts .entry))) (records - from .record) (from .record) ⌝ }
 {
-    key_order(u, u_cells, u_width, key_of(only(t.m)), sums, order, scratch);
+    key_order(
+        u,
+        u_cells,
+        u_width,
+        key_of(one_text(t.m)),
+        sums,
+        order,
+        scratch,
+    );
     first_unfound(
         s,
         cells,

@@ -4,8 +4,8 @@ use Rattle.ordered_target.proofs.Laws.{filled}
 use Rattle.ordered_target.proofs.unfound_in_order.Statement.{statement}
 use Rattle.ordered_target.proofs.unfound_in_order.Tie as tie
 
-only-requires : tie.Need-only-requires
-only-requires c κs = search needs
+one-text-requires : tie.Need-one-text-requires
+one-text-requires c κs = search needs
 
 key-of-requires : tie.Need-key-of-requires
 key-of-requires c κs = search needs
@@ -15,7 +15,7 @@ key-order-requires c κs = search needs
 
 first-unfound-requires : tie.Need-first-unfound-requires
 first-unfound-requires c κs =
-    filled _ _ _ _ _ _ _ _ _ _ (c .before .before .before .before .before .before .before .before .before .before .before .before .before .only .ensures) (c .before .before .before .before .before .before .before .before .before .before .before .before .key-of .ensures) (c .before .before .before .before .before .before .before .before .before .before .before .before .before .before .before .before .before .before .before .before .before .before .before .pre .1) (c .before .before .before .before .before .before .before .before .before .before .before .before .before .before .before .before .before .before .before .before .before .before .before .pre .0) (c .before .before .before .before .before .before .before .before .key-order .ensures .1) (c .before .before .before .before .before .before .before .before .key-order .ensures .2)
+    filled _ _ _ _ _ _ _ _ _ _ (c .before .before .before .before .before .before .before .before .before .before .before .before .before .one-text .ensures) (c .before .before .before .before .before .before .before .before .before .before .before .before .key-of .ensures) (c .before .before .before .before .before .before .before .before .before .before .before .before .before .before .before .before .before .before .before .before .before .before .before .pre .1) (c .before .before .before .before .before .before .before .before .before .before .before .before .before .before .before .before .before .before .before .before .before .before .before .pre .0) (c .before .before .before .before .before .before .before .before .key-order .ensures .1) (c .before .before .before .before .before .before .before .before .key-order .ensures .2)
 
 same-length : tie.Need-same-length
 same-length c = search needs
@@ -33,7 +33,7 @@ pub unfound-in-order-spec : {M : Type 1} → statement M
 unfound-in-order-spec =
     tie.close
     (tie.spec
-    only-requires
+    one-text-requires
     key-of-requires
     key-order-requires
     first-unfound-requires
