@@ -177,7 +177,7 @@ fn refuse(name: &[u8], refusal: u32) {
         ),
         3 => complain(
             name,
-            b"refused as 3: an offset, a length or two files over one byte break the layout; fill the drawer anew from the set",
+            b"refused as 3: its offsets and lengths break the layout; make it anew from the files of the set",
         ),
         4 => complain(
             name,
