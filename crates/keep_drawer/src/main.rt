@@ -12,8 +12,6 @@
 // the whole drawer goes to FILE.new, which then takes FILE's name. So a program that is stopped midway leaves
 // FILE as it was, and at most FILE.new beside it, which the next change writes anew.
 ghost use Prim.Native.Nat.{_≤_};
-ghost use lib.ListN.{length};
-ghost use Rattle.folder.specs.Answers.{FoundWithin};
 use board::report_board;
 use bundle_bytes::put_part;
 use bundle_bytes::put_word;
@@ -85,7 +83,7 @@ fn of_file_and_one(word: &[u8]) -> Command {
 }
 
 // The command of the first argument, where it has as many behind it as it takes.
-fn command() -> Command {
+fn what_is_asked() -> Command {
     let mut word = [0u8; 16];
     let n = os::arg(1, &mut word);
     match os::arg_count() {
@@ -257,36 +255,16 @@ fn is_free(name: &[u8]) -> bool {
     false
 }
 
-fn read_drawer(name: &[u8], drawer: &mut [u8]) -> Found
-    ensures { λ r. ⌜ FoundWithin r (length (now (drawer .exit))) ⌝ }
-{
-    match read_named(name, drawer) {
-        Found::Bytes { n } => Found::Bytes { n },
-        Found::Nothing => {
-            complain(name, b"there is no drawer of that name; make one first");
-            Found::Failed
-        }
-        Found::Failed => {
-            complain(name, b"not read; name a drawer that can be read");
-            Found::Failed
-        }
-    }
+fn no_drawer(name: &[u8]) {
+    complain(name, b"there is no drawer of that name; make one first");
 }
 
-fn read_source(name: &[u8], bytes: &mut [u8]) -> Found
-    ensures { λ r. ⌜ FoundWithin r (length (now (bytes .exit))) ⌝ }
-{
-    match read_named(name, bytes) {
-        Found::Bytes { n } => Found::Bytes { n },
-        Found::Nothing => {
-            complain(name, b"there is no file of that name");
-            Found::Failed
-        }
-        Found::Failed => {
-            complain(name, b"not read; name a file that can be read");
-            Found::Failed
-        }
-    }
+fn no_source(name: &[u8]) {
+    complain(name, b"there is no file of that name");
+}
+
+fn not_read(name: &[u8]) {
+    complain(name, b"not read; name a file that can be read");
 }
 
 // ---- The commands. A drawer's name is the first n bytes of a path.
@@ -341,10 +319,10 @@ fn put(path: &mut [u8], n: usize, d: &mut [u8], new: &mut [u8])
     if k == NO_NUMBER {
         return;
     }
-    match read_source(part(&name, 0, m), new) {
+    match read_named(part(&name, 0, m), new) {
         Found::Bytes { n: size } => change(path, n, d, k, true, part(new, 0, size)),
-        Found::Nothing => {}
-        Found::Failed => {}
+        Found::Nothing => no_source(part(&name, 0, m)),
+        Found::Failed => not_read(part(&name, 0, m)),
     }
 }
 
@@ -394,12 +372,12 @@ fn fill(path: &mut [u8], n: usize, d: &mut [u8], bundle: &mut [u8])
     if m == 0 {
         return;
     }
-    match read_source(part(&name, 0, m), bundle) {
+    match read_named(part(&name, 0, m), bundle) {
         Found::Bytes { n: size } => {
             fill_with(path, n, d, part(&name, 0, m), part(bundle, 0, size))
         }
-        Found::Nothing => {}
-        Found::Failed => {}
+        Found::Nothing => no_source(part(&name, 0, m)),
+        Found::Failed => not_read(part(&name, 0, m)),
     }
 }
 
@@ -487,13 +465,30 @@ fn answer(command: Command, path: &mut [u8], n: usize, d: &mut [u8], other: &mut
     }
 }
 
+// The same of the drawer at the front of a buffer, which is as long.
+fn answer_front(
+    command: Command,
+    path: &mut [u8],
+    n: usize,
+    drawer: &mut [u8],
+    size: usize,
+    other: &mut [u8],
+)
+    requires { ⌜ n ≤ 4096 ⌝ }
+{
+    if drawer.len() < size {
+        return;
+    }
+    answer(command, path, n, &mut drawer[..size], other);
+}
+
 fn answer_file(command: Command, path: &mut [u8], n: usize, drawer: &mut [u8], other: &mut [u8])
     requires { ⌜ n ≤ 4096 ⌝ }
 {
-    match read_drawer(part(path, 0, n), drawer) {
-        Found::Bytes { n: size } => answer(command, path, n, &mut drawer[..size], other),
-        Found::Nothing => {}
-        Found::Failed => {}
+    match read_named(part(path, 0, n), drawer) {
+        Found::Bytes { n: size } => answer_front(command, path, n, drawer, size, other),
+        Found::Nothing => no_drawer(part(path, 0, n)),
+        Found::Failed => not_read(part(path, 0, n)),
     }
 }
 
@@ -516,14 +511,17 @@ fn usage() {
     );
 }
 
+// With memory of its own.
+fn answer_asked(command: Command) {
+    let mut drawer = [0u8; 1048577];
+    let mut other = [0u8; 1048577];
+    answer_named(command, &mut drawer, &mut other);
+}
+
 fn main() {
-    let command = command();
+    let command = what_is_asked();
     match command {
         Command::Unknown => usage(),
-        _ => {
-            let mut drawer = [0u8; 1048577];
-            let mut other = [0u8; 1048577];
-            answer_named(command, &mut drawer, &mut other);
-        }
+        _ => answer_asked(command),
     }
 }
