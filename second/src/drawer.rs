@@ -8,6 +8,7 @@ use crate::bundle::{
     build, file_state, files, word_at, FileState, Files, FILES, HEADER, LARGEST_BUNDLE,
     NO_SUCH_FILE, OUTPUT_TOO_SHORT, WRONG_COUNT, WRONG_LAYOUT, WRONG_SIZE,
 };
+use crate::fields::FILE_NAMES;
 use crate::gate::{judge, try_change, Change, Verdict};
 
 pub const NO_ROOM: u32 = 11;
@@ -167,6 +168,36 @@ pub fn take_bundle(drawer: &[u8], output: &mut [u8]) -> Result<usize, u32> {
     let front = output.get_mut(..bundle.len()).ok_or(OUTPUT_TOO_SHORT)?;
     front.copy_from_slice(&bundle);
     Ok(bundle.len())
+}
+
+// ------------------------------------------------------------- the list
+
+/// The files with their places, the gaps and the free bytes as lines of text, or
+/// the refusal.
+pub fn list(drawer: &[u8]) -> String {
+    let spans = match spans(drawer) {
+        Ok(spans) => spans,
+        Err(refusal) => return format!("bundle {refusal}\n"),
+    };
+    let mut text = String::new();
+    for (number, span) in spans.iter().enumerate() {
+        if let Some(span) = span {
+            let name = FILE_NAMES[number];
+            let ending = if number == 0 { "" } else { ".json" };
+            text += &format!("{number} {name}{ending} {} {}\n", span.offset, span.length);
+        }
+    }
+    let taken = taken_bytes(&spans, drawer.len()).expect("no byte is in two files");
+    let mut at = HEADER;
+    while at < taken.len() {
+        let run = taken[at..].iter().take_while(|is_taken| **is_taken == taken[at]).count();
+        if !taken[at] {
+            text += &format!("gap {at} {run}\n");
+        }
+        at += run;
+    }
+    let free = taken.iter().filter(|is_taken| !**is_taken).count();
+    text + &format!("free {free} of {}\n", drawer.len())
 }
 
 // ------------------------------------------------------------- placement

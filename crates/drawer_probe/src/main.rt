@@ -10,6 +10,7 @@
 //   4 put a bundle in: refusal and the drawer
 //   5 take the bundle of the files out: refusal, its length and the output, whose byte i was before the seed
 //     and 7 i together, its lowest eight bits
+//   6 list it: the length of the text, and the text
 // The program ends where the input does, and at a case that is too long or asks nothing known.
 ghost use Prim.Native.Nat.{_≤_};
 ghost use mathlib.Core.Path.{_≡_};
@@ -20,6 +21,7 @@ use bundle_bytes::put_word;
 use bundle_bytes::word_at;
 use drawer_bundles::put_bundle;
 use drawer_bundles::take_bundle;
+use drawer_text::put_list;
 use drawers::Drawn;
 use drawers::drawer_file;
 use drawers::drawer_judge_in;
@@ -209,6 +211,14 @@ fn take_front(drawer: &[u8], out: &mut [u8], z: usize, seed: usize) -> bool {
     take(drawer, &mut out[..z], seed)
 }
 
+fn list(drawer: &[u8], out: &mut [u8]) -> bool {
+    let n = put_list(out, 0, drawer);
+    if write_number(low(n)) {
+        return write_part(part(out, 0, n));
+    }
+    false
+}
+
 // Answers the case of this head over the drawer, which is read first.
 fn answer_drawer(
     head: &[u8],
@@ -232,6 +242,7 @@ fn answer_drawer(
             word_at(head, 20) as usize,
             word_at(head, 24) as usize,
         ),
+        6 => list(drawer, out),
         _ => false,
     }
 }

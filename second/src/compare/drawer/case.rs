@@ -12,7 +12,8 @@ use crate::compare::reply::{Form, Reply};
 use crate::compare::run::{hex, Question};
 use crate::compare::wire::{read_first_word, read_slice_within, read_word, unsound, write_words};
 use crate::drawer::{
-    change_drawer, drawer_part, drawer_state, judge_drawer, put_bundle, take_bundle, try_drawer,
+    change_drawer, drawer_part, drawer_state, judge_drawer, list, put_bundle, take_bundle,
+    try_drawer,
 };
 use crate::gate::Verdict;
 
@@ -22,6 +23,7 @@ pub const MAKE: u32 = 2;
 pub const LOOK_UP: u32 = 3;
 pub const PUT: u32 = 4;
 pub const TAKE: u32 = 5;
+pub const LIST: u32 = 6;
 
 const LONGEST_SHOWN: usize = 600;
 
@@ -42,6 +44,8 @@ pub enum Call {
     Put(Bytes),
     /// The bundle of its files is taken out.
     Take(Output),
+    /// Its files, gaps and free bytes as a text.
+    List,
 }
 
 impl DrawerCase {
@@ -53,6 +57,7 @@ impl DrawerCase {
             Call::LookUp(_) => LOOK_UP,
             Call::Put(_) => PUT,
             Call::Take(_) => TAKE,
+            Call::List => LIST,
         }
     }
 
@@ -76,7 +81,7 @@ impl DrawerCase {
         let number = match &self.call {
             Call::Try(change) | Call::Make(change) => change.number,
             Call::LookUp(number) => *number,
-            Call::Judge | Call::Put(_) | Call::Take(_) => 0,
+            Call::Judge | Call::Put(_) | Call::Take(_) | Call::List => 0,
         };
         let output = match self.call {
             Call::Take(output) => output,
@@ -113,6 +118,7 @@ impl DrawerCase {
                 ("length", Form::Number),
                 ("output", Form::Bytes(output.length)),
             ],
+            Call::List => vec![("length", Form::Number), ("text", Form::Counted)],
         }
     }
 
@@ -126,6 +132,7 @@ impl DrawerCase {
             Call::Take(Output { length, seed }) => {
                 format!("take the bundle out, output of {length} bytes, seed {seed}")
             }
+            Call::List => "list".to_string(),
         }
     }
 }
@@ -155,7 +162,7 @@ impl Question for DrawerCase {
             *word = read_word(input)?;
         }
         let [drawer, number, present, new, length, seed] = words;
-        if op > TAKE || length as usize > LONGEST {
+        if op > LIST || length as usize > LONGEST {
             return Err(unsound("there is no such op, or the output is too long"));
         }
         if present > 1 || (present == 0 && new > 0) {
@@ -168,7 +175,8 @@ impl Question for DrawerCase {
             MAKE => Call::Make(read_change(number, present, new, input)?),
             LOOK_UP => Call::LookUp(number),
             PUT => Call::Put(Arc::new(read_slice_within(input, new, LONGEST)?)),
-            _ => Call::Take(Output { length, seed }),
+            TAKE => Call::Take(Output { length, seed }),
+            _ => Call::List,
         };
         Ok(Some(DrawerCase { drawer, call }))
     }
@@ -193,6 +201,10 @@ impl Question for DrawerCase {
                 Reply::default().number("refusal", refusal).bytes("drawer", drawer)
             }
             Call::Take(output) => taken(&self.drawer, *output),
+            Call::List => {
+                let text = list(&self.drawer).into_bytes();
+                Reply::default().number("length", text.len() as u32).bytes("text", text)
+            }
         }
     }
 
@@ -277,6 +289,7 @@ mod tests {
             Call::Put(Arc::new(Vec::new())),
             Call::Put(drawer.clone()),
             Call::Take(Output { length: 170, seed: u32::MAX }),
+            Call::List,
         ];
         for call in calls {
             let case = DrawerCase { drawer: drawer.clone(), call };
@@ -296,7 +309,7 @@ mod tests {
     fn unsound_cases_are_not_answered() {
         let longer = LONGEST as u32 + 1;
         let headers: [[u32; 7]; 6] = [
-            [6, 0, 0, 0, 0, 0, 0],
+            [7, 0, 0, 0, 0, 0, 0],
             [0, longer, 0, 0, 0, 0, 0],
             [5, 0, 0, 0, 0, longer, 0],
             [4, 0, 0, 1, longer, 0, 0],

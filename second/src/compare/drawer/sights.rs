@@ -2,7 +2,7 @@
 
 use std::fmt::{self, Display};
 
-use super::case::{Call, DrawerCase, JUDGE, LOOK_UP, MAKE, PUT, TAKE, TRY};
+use super::case::{Call, DrawerCase, JUDGE, LIST, LOOK_UP, MAKE, PUT, TAKE, TRY};
 use crate::bundle::{word_at, FILES, HEADER, LARGEST_BUNDLE};
 use crate::compare::gate::case::Change;
 use crate::compare::reply::Reply;
@@ -34,6 +34,8 @@ pub enum Sight {
         mark: usize,
         refused: bool,
     },
+    /// A list with so many gaps, or more.
+    Gaps(usize),
     Way(Way),
     Wrong(Wrong),
 }
@@ -128,6 +130,7 @@ impl Display for Sight {
             }
             Sight::Judged { mark, file } => write!(out, "mark {mark} anew by file {file}"),
             Sight::Kept { mark, refused } => write!(out, "mark {mark} kept, refused: {refused}"),
+            Sight::Gaps(gaps) => write!(out, "a list with {gaps} gaps"),
             Sight::Way(way) => write!(out, "a change: {way:?}"),
             Sight::Wrong(wrong) => write!(out, "a layout: {wrong:?}"),
         }
@@ -135,13 +138,14 @@ impl Display for Sight {
 }
 
 pub fn wanted() -> Vec<Sight> {
-    let refusals: [(u32, &[u32]); 6] = [
+    let refusals: [(u32, &[u32]); 7] = [
         (JUDGE, &[0, 1, 2, 3]),
         (TRY, &[0, 1, 2, 3, 4, 11]),
         (MAKE, &[0, 1, 2, 3, 4, 11]),
         (LOOK_UP, &[0, 1, 2, 3, 4]),
         (PUT, &[0, 1, 2, 3, 11]),
         (TAKE, &[0, 1, 2, 3, 5]),
+        (LIST, &[0, 1, 2, 3]),
     ];
     let mut wanted = vec![Sight::NoDrawer];
     for (op, numbers) in refusals {
@@ -157,12 +161,19 @@ pub fn wanted() -> Vec<Sight> {
     for mark in 0..=80 {
         wanted.extend([false, true].map(|refused| Sight::Kept { mark, refused }));
     }
+    wanted.extend((0..=MOST_GAPS).map(Sight::Gaps));
     wanted.extend(WAYS.map(Sight::Way));
     wanted.extend(WRONGS.map(Sight::Wrong));
     wanted
 }
 
+/// From so many gaps on a list shows nothing new.
+const MOST_GAPS: usize = 4;
+
 pub fn sights_of(case: &DrawerCase, expected: &Reply) -> Vec<Sight> {
+    if case.call == Call::List {
+        return list_sights(&case.drawer, expected.bytes_of("text"));
+    }
     let refusal = expected.number_of("refusal");
     let mut seen = vec![Sight::Refusal { op: case.op(), refusal }];
     match &case.call {
@@ -181,6 +192,16 @@ pub fn sights_of(case: &DrawerCase, expected: &Reply) -> Vec<Sight> {
             }
         }
         _ => {}
+    }
+    seen
+}
+
+fn list_sights(drawer: &[u8], text: &[u8]) -> Vec<Sight> {
+    let refusal = spans(drawer).err().unwrap_or(0);
+    let mut seen = vec![Sight::Refusal { op: LIST, refusal }];
+    if refusal == 0 {
+        let gaps = text.split(|byte| *byte == b'\n').filter(|line| line.starts_with(b"gap "));
+        seen.push(Sight::Gaps(gaps.count().min(MOST_GAPS)));
     }
     seen
 }

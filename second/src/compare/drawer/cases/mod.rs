@@ -40,9 +40,11 @@ impl Cases {
         self.list.push(DrawerCase { drawer: drawer.clone(), call });
     }
 
+    /// The drawer is judged and listed.
     fn judge(&mut self, drawer: Vec<u8>) -> Bytes {
         let drawer = Arc::new(drawer);
         self.push(&drawer, Call::Judge);
+        self.push(&drawer, Call::List);
         drawer
     }
 
