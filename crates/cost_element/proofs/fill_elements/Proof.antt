@@ -42,7 +42,7 @@ slice-aggregate-fill-in-order-4 : tie.Need-slice-aggregate-fill-in-order-4
 slice-aggregate-fill-in-order-4 c = sym (length-take-le _ _ (omega (arith, length-replicate {A = ℕ} 4096 0)))
 
 fill-in-order-requires : tie.Need-fill-in-order-requires
-fill-in-order-requires c κs = (search needs _ _ _ _ (c .before .before .before .before .before .before .before .before .if1 .left) (length-take-le _ _ (omega (arith, length-replicate {A = ℕ} 4096 0))) (length-take-le _ _ (omega (arith, length-replicate {A = ℕ} 4096 0))) (length-take-le _ _ (omega (arith, length-replicate {A = ℕ} 4096 0))))
+fill-in-order-requires c κs = (search needs, fit-lists _ _ _ _ (c .before .before .before .before .before .before .before .before .if1 .left) (length-take-le _ _ (omega (arith, length-replicate {A = ℕ} 4096 0))) (length-take-le _ _ (omega (arith, length-replicate {A = ℕ} 4096 0))) (length-take-le _ _ (omega (arith, length-replicate {A = ℕ} 4096 0))))
 
 same-length : tie.Need-same-length
 same-length c = search needs
