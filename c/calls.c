@@ -558,7 +558,7 @@ static void words(void) {
     }
     expect_text("4 in words", "the file number is over 19, on the contract side over 3", knotsaddle_in_words(4));
     expect_text("0 in words", "", knotsaddle_in_words(0));
-    expect_text("8 in words", "", knotsaddle_in_words(8));
+    expect_text("99 in words", "", knotsaddle_in_words(99));
 }
 
 /* ---- The baseline profile, and a number that is no gate's */

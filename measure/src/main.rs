@@ -11,10 +11,14 @@ use std::process::exit;
 use std::time::Duration;
 
 use bar::Bar;
+use knotsaddle::loops::show_in;
 use knotsaddle::{judge, judge_in, make_in, reason_in, try_in, Board, Gate, WORKSPACE};
 use odd::odd_sets;
+use second::bench::chains::chains;
 use second::bench::sets::{linked_set, long_id_set, scrambled, whole_set, LONG_IDS, SIZES, TASKS};
 use second::compare::gate::sample::Set;
+use second::loops::{is_loop, links_of, show_loop, Shown};
+use second::table::MOST_RECORDS;
 use time::{best, pass};
 
 const SEED: u64 = 20_200_312;
@@ -58,6 +62,11 @@ fn main() {
     println!("|---|---:|---:|---:|---:|");
     for (name, set) in odd_sets() {
         bench.odd(name, &set, plain);
+    }
+    println!("\n| 4,096 links | bytes | read ms | show ms | show / read | second ms | show / second |");
+    println!("|---|---:|---:|---:|---:|---:|---:|");
+    for (name, set) in chains(seed) {
+        bench.chain(&name, &set);
     }
 }
 
@@ -227,6 +236,23 @@ impl Bench {
             by_byte / plain
         );
     }
+
+    /// A loop of links looked for, beside the reading of their file.
+    fn chain(&mut self, name: &str, set: &Set) {
+        let bundle = set.bundle();
+        let (span, work) = (self.span, &mut self.work);
+        let mut list = vec![0; MOST_RECORDS];
+        compare_rings(&bundle, show_in(&bundle, &mut list, work).expect("not refused"));
+        let read = best(span, || reason_in(Gate::Schedule, &bundle, 14, work).is_ok());
+        let show = best(span, || show_in(&bundle, &mut list, work).is_ok());
+        let second = best(span, || show_loop(&bundle, &mut list));
+        println!(
+            "| {name} | {} | {read:.3} | {show:.3} | {:.2} | {second:.3} | {:.2} |",
+            bundle.len(),
+            show / read,
+            show / second
+        );
+    }
 }
 
 struct Times {
@@ -271,5 +297,15 @@ fn compare(board: &Board, own: &second::board::Board) {
             eprintln!("measure: mark {mark} is {ours:?}, and the second program has {theirs:?}");
             exit(1);
         }
+    }
+}
+
+/// A loop is shown exactly if the second program finds one, and it is one.
+fn compare_rings(bundle: &[u8], ring: Option<&[u32]>) {
+    let links = links_of(bundle).expect("not refused");
+    let found = show_loop(bundle, &mut [0; MOST_RECORDS]) != Shown::Nothing;
+    if ring.is_some() != found || !ring.map_or(true, |ring| is_loop(&links, ring)) {
+        eprintln!("measure: what is shown is {ring:?}, and the second program finds a loop: {found}");
+        exit(1);
     }
 }

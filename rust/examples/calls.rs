@@ -136,7 +136,7 @@ fn texts(count: &mut Count) {
     count.expect("no text for mark 81", about_mark(GATE, MARKS).is_none());
     count.expect("a refusal in words", Refusal(4).to_string() == "refused as 4: the file number is over 19, on the contract side over 3");
     count.expect("each has words", [1, 2, 3, 4, 5, 6, 7, 9, 14, 100, 102, 103].iter().all(|&number| !Refusal(number).in_words().is_empty()));
-    count.expect("no words for another number", Refusal(8).in_words().is_empty());
+    count.expect("no words for another number", Refusal(99).in_words().is_empty());
 }
 
 /// The baseline profile: 0 hours booked break its mark 84, and no mark of document 01's gate.

@@ -12,6 +12,9 @@
 use std::fmt;
 
 pub mod desks;
+pub mod drawer;
+pub mod listed;
+pub mod loops;
 pub mod quarter;
 
 /// How many files a set has.
@@ -68,9 +71,9 @@ pub struct Board {
     pub companions: Vec<usize>,
 }
 
-/// Why a call is refused, by its number: document 01's 1 to 6, 7 for a mark number that is too high, 14 where a lent workspace is
-/// too short, 100 for a board of another length than its gate's, 102 where there is no memory for a workspace. In words by
-/// `Display`.
+/// Why a call is refused, by its number: document 01's 1 to 6, 7 for a mark number that is too high, 8 to 13 by the modules beside this
+/// one, 14 where a lent workspace is too short, 100 for a board of another length than its gate's, 102 where there is no memory for a
+/// workspace. In words by `Display`.
 #[derive(Clone, Copy, Debug, PartialEq, Eq)]
 pub struct Refusal(pub u32);
 
@@ -402,11 +405,16 @@ fn reason_told(bundle: &[u8], told: [usize; TOLD_NUMBERS]) -> Reason<'_> {
     }
 }
 
+/// So many numbers from the heap.
+fn numbers(count: usize) -> Result<Vec<u32>, Refusal> {
+    let mut list = Vec::new();
+    list.try_reserve_exact(count).map_err(|_| NO_MEMORY)?;
+    list.resize(count, 0);
+    Ok(list)
+}
+
 fn workspace() -> Result<Vec<u32>, Refusal> {
-    let mut work = Vec::new();
-    work.try_reserve_exact(WORKSPACE).map_err(|_| NO_MEMORY)?;
-    work.resize(WORKSPACE, 0);
-    Ok(work)
+    numbers(WORKSPACE)
 }
 
 /// Judges a bundle in full.

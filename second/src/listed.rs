@@ -27,21 +27,28 @@ pub struct Entry {
 #[derive(Clone, Debug, PartialEq, Eq)]
 pub struct Listed {
     pub refusal: u32,
-    /// Of the new bundle, 0 if there is none.
+    /// Of the bundle that was judged, 0 if refused.
     pub length: usize,
+    /// How many entries the list starts with, 0 if refused.
+    pub entries: usize,
     pub board: Board,
 }
 
 /// Judges a bundle in full and fills the list.
 pub fn judge_listed(bundle: &[u8], list: &mut [Entry]) -> Listed {
-    let refused = |refusal| Listed { refusal, length: 0, board: Board::fresh() };
+    let refused = |refusal| Listed { refusal, length: 0, entries: 0, board: Board::fresh() };
     let entries = match files(bundle) {
         Err(refusal) => return refused(refusal),
         Ok(files) => entries_of(&files, KEYED),
     };
     match fill(list, &entries) {
         false => refused(LIST_TOO_SHORT),
-        true => Listed { refusal: 0, length: 0, board: judge(bundle).board },
+        true => Listed {
+            refusal: 0,
+            length: bundle.len(),
+            entries: entries.len(),
+            board: judge(bundle).board,
+        },
     }
 }
 
@@ -53,16 +60,17 @@ pub fn try_listed(
     change: Change,
     list: &mut [Entry],
 ) -> Listed {
-    let refused = |refusal| Listed { refusal, length: 0, board: *board };
+    let refused = |refusal| Listed { refusal, length: 0, entries: 0, board: *board };
     let files = match changed_files(bundle, file, change) {
         Err(refusal) => return refused(refusal),
         Ok(files) => files,
     };
-    if !fill(list, &entries_of(&files, files_of_change(file))) {
+    let entries = entries_of(&files, files_of_change(file));
+    if !fill(list, &entries) {
         return refused(LIST_TOO_SHORT);
     }
     let board = try_change(bundle, board, file, change).board;
-    Listed { refusal: 0, length: built_length(&files), board }
+    Listed { refusal: 0, length: built_length(&files), entries: entries.len(), board }
 }
 
 /// Makes the change. A list that is too short is found out behind an output that
@@ -75,7 +83,7 @@ pub fn make_listed(
     output: &mut [u8],
     list: &mut [Entry],
 ) -> Listed {
-    let refused = |refusal| Listed { refusal, length: 0, board: *board };
+    let refused = |refusal| Listed { refusal, length: 0, entries: 0, board: *board };
     let files = match changed_files(bundle, file, change) {
         Err(refusal) => return refused(refusal),
         Ok(files) => files,
@@ -84,11 +92,12 @@ pub fn make_listed(
     if length > output.len() {
         return refused(OUTPUT_TOO_SHORT);
     }
-    if !fill(list, &entries_of(&files, files_of_change(file))) {
+    let entries = entries_of(&files, files_of_change(file));
+    if !fill(list, &entries) {
         return refused(LIST_TOO_SHORT);
     }
     let board = make_change(bundle, board, file, change, output).board;
-    Listed { refusal: 0, length, board }
+    Listed { refusal: 0, length, entries: entries.len(), board }
 }
 
 /// The files that are read by some mark which the change touches.

@@ -4,6 +4,7 @@
 use std::collections::HashMap;
 
 use crate::bundle::{files, WRONG_SIZE};
+use crate::sentence::cut;
 use crate::table::{read_file, MOST_RECORDS};
 
 pub const LINKS_UNREADABLE: u32 = 12;
@@ -149,19 +150,60 @@ pub fn is_loop(links: &[Link], records: &[u32]) -> bool {
     !ring.is_empty() && ring.iter().zip(next).all(|(link, next)| link.to == next.from)
 }
 
-/// What the program prints: the refusal, `none`, or the records of a loop.
-pub fn loop_text(bundle: &[u8]) -> String {
+/// What the program prints: the refusal, `none`, or the records of a loop;
+/// explained, each of its links in words besides.
+pub fn loop_text(bundle: &[u8], explained: bool) -> String {
     let mut list = [0; MOST_RECORDS];
     let shown = match bundle.len() {
         0..=LONGEST_READ => show_loop(bundle, &mut list),
         _ => Shown::Refused(WRONG_SIZE),
     };
+    shown_text(bundle, shown, &list, explained)
+}
+
+/// The text of what a call has shown.
+pub fn shown_text(bundle: &[u8], shown: Shown, list: &[u32], explained: bool) -> String {
     match shown {
         Shown::Refused(refusal) => format!("bundle {refusal}\n"),
         Shown::Nothing => "none\n".to_string(),
-        Shown::Ring(length) => {
-            let numbers: Vec<String> = list[..length].iter().map(u32::to_string).collect();
-            format!("{}\n", numbers.join(" "))
+        Shown::Ring(length) => ring_text(bundle, &list[..length], explained),
+    }
+}
+
+/// The record numbers of a loop on a line; explained, a line for each link.
+pub fn ring_text(bundle: &[u8], ring: &[u32], explained: bool) -> String {
+    let numbers: Vec<String> = ring.iter().map(u32::to_string).collect();
+    let mut lines = vec![numbers.join(" ")];
+    if explained {
+        let ids = written_ids(bundle);
+        for (place, record) in ring.iter().enumerate() {
+            let [before, after] = &ids[*record as usize - 1];
+            let leads = match ring.get(place + 1) {
+                Some(next) => format!("leads to record {next}."),
+                None => format!("leads back to record {}. Take a link of the loop out.", ring[0]),
+            };
+            lines.push(format!(
+                "TaskRelationships record {record}: SuccessorTaskID {after} waits for \
+                 PredecessorTaskID {before} and {leads}"
+            ));
         }
     }
+    lines.join("\n") + "\n"
+}
+
+/// The predecessor and the successor of each record as they stand in the file,
+/// long ones cut. File 14 is readable.
+fn written_ids(bundle: &[u8]) -> Vec<[String; 2]> {
+    let bytes = files(bundle).expect("the bundle isn't refused")[RELATIONSHIPS].unwrap_or(&[]);
+    let records = read_file(RELATIONSHIPS, Some(bytes)).expect("file 14 is readable");
+    let written = |id: &[u8]| cut(std::str::from_utf8(id).expect("a readable file is UTF-8"));
+    records
+        .iter()
+        .map(|record| {
+            ["PredecessorTaskID", "SuccessorTaskID"].map(|field| {
+                let place = record.place(field);
+                written(&bytes[place.start as usize..place.end as usize])
+            })
+        })
+        .collect()
 }

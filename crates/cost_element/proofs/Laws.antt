@@ -114,12 +114,6 @@ module _ (u : Table) (firsts sums order text : List ℕ) (e first : ℕ) (is : f
   unfolding isOfFound
   looked-up z also a x f = rw (← is, ne-eqb first 0 z, ← a) f
 
--- ---- three lists of n places are fit to hold the order
-pub fit-lists : (sums order scratch : List ℕ) (n : ℕ) → n ≤ 4096 → length sums ≡ n → length order ≡ n → length scratch ≡ n → areFit sums order scratch ≡ true
-unfolding areFit
-fit-lists sums order scratch n h a b d =
-    rw (le-leb (length order) 4096 (omega arith), eq-eqb (length sums) (length order) (omega arith), eq-eqb (length scratch) (length order) (omega arith))
-
 -- ---- the elements, found in lists that were filled with the order
 pub found-in-order : (t u : Table) (firsts sums order scratch sums′ order′ : List ℕ) (key : Key) (n : ℕ) (last : List ℕ) → areFit sums order scratch ≡ true → key ≡ keyOf (lookupAt 0) → sums′ ≡ sumsAfter u key sums order scratch → order′ ≡ orderAfter u key sums order scratch
     → last ≡ listOf (λ (r : ℕ). elementFound u firsts sums′ order′ (textOf t r assignedID)) n

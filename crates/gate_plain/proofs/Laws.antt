@@ -5,7 +5,7 @@ use mathlib.Core.Path.{_≡_, refl, sym, ap, _∙_}
 use mathlib.Core.Bool.{Bool, true, false, not, cond, _&&_}
 use mathlib.Core.List.{List, _++_}
 use native.Mathlib.Omega.{arith}
-use borrow.Author.Tests.{lt-ltb, le-ltb, eq-eqb}
+use borrow.Author.Tests.{lt-ltb, le-ltb, eq-eqb, ne-eqb}
 use lib.ListN.{length, take, drop}
 use lib.Seq.{length-take-le, take-at}
 use lib.Dec.{ltb, eqb}
@@ -22,6 +22,7 @@ use Rattle.rules.specs.declared.Break.{Break}
 use Rattle.rules.specs.Judge.{ruleBreak, isJudged, markOf}
 use Rattle.bundle_layout.specs.Bundle.{isOmitted, partAt, fileAt, bundleFault}
 use Rattle.board.specs.declared.Board.{Board}
+use Rattle.board.specs.Board.{freshBoard}
 use Rattle.gate_marks.specs.Gate.{Gate, gateFrom, marksOf, ruleOfMark}
 use Rattle.gate_marks.specs.Work.{zeros, widthOf, roomOf, readOf}
 use Rattle.gate_marks.specs.Marks.{markRead, fileMark, tableOf, ruleMark, ruleMarkAt, markAt, fullMarks}
@@ -126,7 +127,14 @@ lists-of marks forms fields names fixed rules values texts same e =
 pub own-cells : {lent : ℕ} → lent ≡ 524288 → 524288 ≤ lent
 own-cells e = omega arith
 
--- ---- a bundle that is not refused
+-- ---- a bundle that is refused
+pub refused-verdict : (s : List ℕ) {fault : ℕ} → fault ≡ bundleFault 20 s → (fault ≡ 0 → ⊥) → {board : Board} → board ≡ freshBoard → record { refusal = fault; length = 0; board = board } ≡ verdictOf (judgement schedule s)
+unfolding verdictOf judgement freshBoard
+refused-verdict s {fault} e some b =
+    let is : bundleFault (schedule .files) s ≡ fault = ap (λ n. bundleFault n s) files-are ∙ sym e in
+    rw (is, ne-eqb fault 0 some, marks-are) (ap (λ (x : Board). record { refusal = fault; length = 0; board = x }) b)
+
+-- ---- one that is not
 pub plain-verdict : (s : List ℕ) {fault : ℕ} → fault ≡ bundleFault 20 s → fault ≡ 0 → {kinds places companions : List ℕ} → marksIn kinds places companions ≡ fullMarks schedule (fileAt s)
     → record { refusal = 0; length = length s; board = record { kinds = kinds; places = places; companions = companions } } ≡ verdictOf (judgement schedule s)
 unfolding verdictOf judgement

@@ -16,12 +16,12 @@ ghost use Rattle.gate_calls.specs.Calls.{judgement};
 ghost use Rattle.schedule.specs.Schedule.{schedule};
 ghost use Rattle.gate.specs.Gate.{verdictOf};
 use board::Board;
+use board::fresh;
 use bundle::bundle_fault;
 use bundle::is_omitted;
 use bundle::part_at;
 use found_marks::width_of;
 use gate::Verdict;
-use gate::judge;
 use gate_marks::read_own;
 use gate_marks::room_of;
 use mark_numbers::Mark;
@@ -234,13 +234,17 @@ fn put_schedule(
     );
 }
 
-// Judges a bundle in full by the plain engine. It says of it what `gate::judge` says; a refused bundle is
-// judged by neither.
+// Judges a bundle in full by the plain engine: it answers what `gate::judge` answers.
 pub fn judge_plain(bundle: &[u8]) -> Verdict
     ensures { λ r. ⌜ r ≡ verdictOf (judgement schedule (now (bundle .entry))) ⌝ }
 {
-    if bundle_fault(bundle, 20) != 0 {
-        return judge(bundle);
+    let refusal = bundle_fault(bundle, 20);
+    if refusal != 0 {
+        return Verdict {
+            refusal,
+            length: 0,
+            board: fresh(),
+        };
     }
     let mut kinds = [2u32; 81];
     let mut places = [0usize; 81];

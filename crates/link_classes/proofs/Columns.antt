@@ -51,12 +51,6 @@ module _ (t : Table) (k : ℕ) (sums order scratch : List ℕ) {sums′ order′
       let y : order′ ≡ inKeyOrder t (keyOf byPredecessor) (length order) = order-is ∙ fit-order sums order scratch t key fit ∙ rw (key-is, l-is) in
       e ∙ rw (x, y)
 
--- ---- three lists of n places are fit to hold the order
-pub fit-lists : (sums order scratch : List ℕ) (n : ℕ) → n ≤ 4096 → length sums ≡ n → length order ≡ n → length scratch ≡ n → areFit sums order scratch ≡ true
-unfolding areFit
-fit-lists sums order scratch n h a b d =
-    rw (le-leb (length order) 4096 (omega arith), eq-eqb (length sums) (length order) (omega arith), eq-eqb (length scratch) (length order) (omega arith))
-
 -- ---- each way through
 module _ (t : Table) (from to : List ℕ) where
   pub too-many : 4096 < length from → (false ≡ areColumns from to) × (from ≡ columnAfter t predecessorID (areColumns from to) from) × (to ≡ columnAfter t successorID (areColumns from to) to)

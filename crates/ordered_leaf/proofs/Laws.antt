@@ -28,7 +28,8 @@ use Rattle.key_order.specs.Order.{sumsOf, inKeyOrder, areFit, sumsAfter, orderA
 use Rattle.key_order.proofs.Lists.{fit-sums, fit-order}
 use Rattle.key_lookup.specs.Lookup.{keyOf}
 use Rattle.key_lookup.proofs.Laws.{found-exactly}
-use Rattle.ordered_target.proofs.Laws.{only, only-has}
+use Rattle.ordered_target.specs.Found.{oneText}
+use Rattle.ordered_target.proofs.Laws.{one-text-has}
 use Rattle.ordered_leaf.specs.Parents.{picked, parentStarts, namesOne, leafBreaksLookup}
 
 -- ---- what is picked out
@@ -127,12 +128,12 @@ module _ (s cells : List ℕ) (width n k : ℕ) (bytes starts : List ℕ) where
   abbrev listed : Table
   listed = table bytes starts 1 0
 
-  found-same : (r : ℕ) → leafBreaksLookup t k listed (only 0) (sumsOf listed 0 (length starts)) (inKeyOrder listed (keyOf (only 0)) (length starts)) r ≡ namesOne t k bytes starts r
+  found-same : (r : ℕ) → leafBreaksLookup t k listed (oneText 0) (sumsOf listed 0 (length starts)) (inKeyOrder listed (keyOf (oneText 0)) (length starts)) r ≡ namesOne t k bytes starts r
   unfolding leafBreaksLookup namesOne someOf sameText
   found-same r =
       ap (λ (b : Bool). isGiven cells width r k && b)
-      (found-exactly listed (only 0) (length starts) (textOf t r k)
-      ∙ ap (λ (f : ℕ → Bool). ltb 0 (firstThat f (length starts))) (fun-ext (only-has listed 0 (textOf t r k))))
+      (found-exactly listed (oneText 0) (length starts) (textOf t r k)
+      ∙ ap (λ (f : ℕ → Bool). ltb 0 (firstThat f (length starts))) (fun-ext (one-text-has listed 0 (textOf t r k))))
 
   fit : (sums order scratch : List ℕ) → length starts ≤ 4096 → length sums ≡ length starts → length order ≡ length starts → length scratch ≡ length starts → areFit sums order scratch ≡ true
   unfolding areFit
@@ -140,11 +141,11 @@ module _ (s cells : List ℕ) (width n k : ℕ) (bytes starts : List ℕ) where
       rw (le-leb (length order) 4096 (omega arith), eq-eqb (length sums) (length order) (omega arith), eq-eqb (length scratch) (length order) (omega arith))
 
   -- what the lent lists say, once they are filled
-  pub filled-names : (key : Key) (sums order scratch sums′ order′ : List ℕ) (x : ℕ) → (length starts ≤ 4096) × (length sums ≡ length starts) × (length order ≡ length starts) × (length scratch ≡ length starts) → key ≡ keyOf (only 0) → sums′ ≡ sumsAfter listed key sums order scratch → order′ ≡ orderAfter listed key sums order scratch → x ≡ firstThat (leafBreaksLookup t k listed (only 0) sums′ order′) n → x ≡ firstThat (namesOne t k bytes starts) n
+  pub filled-names : (key : Key) (sums order scratch sums′ order′ : List ℕ) (x : ℕ) → (length starts ≤ 4096) × (length sums ≡ length starts) × (length order ≡ length starts) × (length scratch ≡ length starts) → key ≡ keyOf (oneText 0) → sums′ ≡ sumsAfter listed key sums order scratch → order′ ≡ orderAfter listed key sums order scratch → x ≡ firstThat (leafBreaksLookup t k listed (oneText 0) sums′ order′) n → x ≡ firstThat (namesOne t k bytes starts) n
   filled-names key sums order scratch sums′ order′ x long c g i j =
       let f : areFit sums order scratch ≡ true = fit sums order scratch (long .0) (long .1) (long .2) (long .3) in
       let a : sums′ ≡ sumsOf listed 0 (length starts) = g ∙ fit-sums sums order scratch listed key f ∙ rw (c, long .2) in
-      let o : order′ ≡ inKeyOrder listed (keyOf (only 0)) (length starts) = i ∙ fit-order sums order scratch listed key f ∙ rw (c, long .2) in
+      let o : order′ ≡ inKeyOrder listed (keyOf (oneText 0)) (length starts) = i ∙ fit-order sums order scratch listed key f ∙ rw (c, long .2) in
       j ∙ rw (a, o) (ap (λ (f : ℕ → Bool). firstThat f n) (fun-ext found-same))
 
 -- ---- the fronts of four lists of 4,096

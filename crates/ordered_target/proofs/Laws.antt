@@ -1,6 +1,6 @@
--- A record breaks a target rule exactly if its value isn't found in the order of keys; so the rule can be judged through it.
+-- A record breaks a target rule exactly if its value isn't found in the order of keys, and not where one record is seen to have it.
 -- Assumes nothing.
-use Prim.Native.Nat.{ℕ, zero, suc}
+use Prim.Native.Nat.{ℕ, zero, suc, _<_}
 use mathlib.Core.Path.{_≡_, refl, sym, ap, _∙_, fun-ext}
 use mathlib.Core.Bool.{Bool, true, false, not, _&&_}
 use mathlib.Core.List.{List}
@@ -8,26 +8,25 @@ use native.Mathlib.Omega.{arith}
 use borrow.Author.Tests.{lt-ltb, ne-eqb}
 use lib.ListN.{length}
 use lib.Dec.{ltb, eqb}
+use Rattle.json_chars.specs.Chars.{charsAt}
 use Rattle.json_same.specs.Same.{sameAs}
 use Rattle.json_same.specs.declared.Case.the-variants.{Folded}
-use Rattle.rule_cells.specs.Cells.{Table, table, textOf, firstThat}
+use Rattle.rule_cells.specs.Cells.{Table, table, startOf, textOf, isGiven, firstThat}
+use Rattle.rule_when.specs.When.{holdsWhen}
 use Rattle.rule_when.specs.declared.When.{When}
-use Rattle.rule_key.specs.declared.Key.{Key}
 use Rattle.rule_target.specs.Target.{targetOf, breaksTarget, targetRule}
+use Rattle.rule_target.proofs.Laws.{target-told, has-target}
+use Rattle.rule_key.specs.declared.Key.{Key}
 use Rattle.key_order.specs.Order.{sumsOf, inKeyOrder, areFit, sumsAfter, orderAfter}
 use Rattle.key_order.proofs.Lists.{fit-sums, fit-order}
 use Rattle.key_lookup.specs.declared.Lookup.{Lookup}
 use Rattle.key_lookup.specs.Lookup.{keyOf, hasTexts, isFound}
 use Rattle.key_lookup.proofs.Laws.{found-exactly}
-use Rattle.ordered_target.specs.Found.{breaksLookup}
+use Rattle.ordered_target.specs.Found.{oneText}
 
--- a text in field m alone
-abbrev pub only : ℕ → Lookup
-only m = record { m = m; k = 0; kind = 0; also = 0 }
-
-pub only-has : (u : Table) (m : ℕ) (text : List ℕ) (q : ℕ) → hasTexts u (only m) text q ≡ sameAs Folded text (textOf u q m)
+pub one-text-has : (u : Table) (m : ℕ) (text : List ℕ) (q : ℕ) → hasTexts u (oneText m) text q ≡ sameAs Folded text (textOf u q m)
 unfolding hasTexts
-only-has u m text q = go (sameAs Folded text (textOf u q m))
+one-text-has u m text q = go (sameAs Folded text (textOf u q m))
   where
     go : (b : Bool) → (b && true) ≡ b
     go true = refl
@@ -38,27 +37,52 @@ none-above zero = refl
 none-above (suc k) = rw (lt-ltb 0 (suc k) (omega arith), ne-eqb (suc k) 0 (λ z. omega arith))
 
 -- some target record has the text exactly if it is found
-not-found : (s cells : List ℕ) (width n m : ℕ) (text : List ℕ) → not (isFound (table s cells width 0) (only m) (sumsOf (table s cells width 0) m n) (inKeyOrder (table s cells width 0) (keyOf (only m)) n) text) ≡ eqb (targetOf text (table s cells width n) m) 0
+not-found : (s cells : List ℕ) (width n m : ℕ) (text : List ℕ) → not (isFound (table s cells width 0) (oneText m) (sumsOf (table s cells width 0) m n) (inKeyOrder (table s cells width 0) (keyOf (oneText m)) n) text) ≡ eqb (targetOf text (table s cells width n) m) 0
 unfolding targetOf
 not-found s cells width n m text =
-    ap not (found-exactly (table s cells width 0) (only m) n text) ∙ none-above (firstThat (hasTexts (table s cells width 0) (only m) text) n)
-    ∙ ap (λ (f : ℕ → Bool). eqb (firstThat f n) 0) (fun-ext (only-has (table s cells width 0) m text))
+    ap not (found-exactly (table s cells width 0) (oneText m) n text) ∙ none-above (firstThat (hasTexts (table s cells width 0) (oneText m) text) n)
+    ∙ ap (λ (f : ℕ → Bool). eqb (firstThat f n) 0) (fun-ext (one-text-has (table s cells width 0) m text))
 
-module _ (s cells : List ℕ) (width n k : ℕ) (w : When) (u-bytes u-cells : List ℕ) (u-width u-n m : ℕ) (places texts : List ℕ) where
-  abbrev u : Table
-  u = table u-bytes u-cells u-width 0
+-- the same of what a lookup in lists that hold this order told
+pub looked-up : (s cells : List ℕ) (width n m : ℕ) (text sums order : List ℕ) (x : Bool) → sums ≡ sumsOf (table s cells width 0) m n → order ≡ inKeyOrder (table s cells width 0) (keyOf (oneText m)) n → x ≡ isFound (table s cells width 0) (oneText m) sums order text → not x ≡ eqb (targetOf text (table s cells width n) m) 0
+looked-up s cells width n m text sums order x e f g = rw (g, e, f) (not-found s cells width n m text)
 
-  abbrev lookup : List ℕ → List ℕ → ℕ → Bool
-  lookup sums order = breaksLookup (table s cells width 0) k w u (only m) sums order places texts
+-- what the lent lists hold once they are filled
+pub filled : (u : Table) (n m : ℕ) (l : Lookup) (key : Key) (sums order scratch sums′ order′ : List ℕ) → l ≡ oneText m → key ≡ keyOf l → length order ≡ n → areFit sums order scratch ≡ true → sums′ ≡ sumsAfter u key sums order scratch → order′ ≡ orderAfter u key sums order scratch → (sums′ ≡ sumsOf u m n) × (order′ ≡ inKeyOrder u (keyOf (oneText m)) n)
+filled u n m l key sums order scratch sums′ order′ a b h fit e f =
+    (e ∙ fit-sums sums order scratch u key fit ∙ rw (b, a, h), f ∙ fit-order sums order scratch u key fit ∙ rw (b, a, h))
 
-  breaks-same : (r : ℕ) → lookup (sumsOf u m u-n) (inKeyOrder u (keyOf (only m)) u-n) r ≡ breaksTarget (table s cells width 0) k w (table u-bytes u-cells u-width u-n) m places texts r
-  unfolding breaksLookup breaksTarget
-  breaks-same r = rw (not-found u-bytes u-cells u-width u-n m (textOf (table s cells width 0) r k))
+-- a record that is seen to have the text is a target
+pub seen : (text u cells : List ℕ) (width n m q start : ℕ) → q < n → start ≡ startOf cells width q m → sameAs Folded text (charsAt u start) ≡ true → eqb (targetOf text (table u cells width n) m) 0 ≡ false
+seen text u cells width n m q start h e f =
+    ne-eqb (targetOf text (table u cells width n) m) 0 (has-target text (table u cells width n) m q h (target-told text u cells width q m start _ e refl ∙ f))
 
-  -- what the lent lists say, once they are filled, is the rule's answer
-  pub filled-gives-rule : (key : Key) (sums order scratch sums′ order′ : List ℕ) (fit : Bool) (x : ℕ) → key ≡ keyOf (only m) → length order ≡ u-n → fit ≡ areFit sums order scratch → fit ≡ true → sums′ ≡ sumsAfter u key sums order scratch → order′ ≡ orderAfter u key sums order scratch → x ≡ firstThat (lookup sums′ order′) n → x ≡ targetRule (table s cells width n) k w (table u-bytes u-cells u-width u-n) m places texts
-  unfolding targetRule
-  filled-gives-rule key sums order scratch sums′ order′ fit x c h f e g i j =
-      let a : sums′ ≡ sumsOf u m u-n = g ∙ fit-sums sums order scratch u key (sym f ∙ e) ∙ rw (c, h) in
-      let o : order′ ≡ inKeyOrder u (keyOf (only m)) u-n = i ∙ fit-order sums order scratch u key (sym f ∙ e) ∙ rw (c, h) in
-      j ∙ rw (a, o) (ap (λ (g : ℕ → Bool). firstThat g n) (fun-ext breaks-same))
+-- ---- one record of the rule
+module _ (t : Table) (k : ℕ) (w : When) (u : Table) (m : ℕ) (places texts : List ℕ) (r : ℕ) where
+  abbrev asked : Bool
+  asked = isGiven (t .cells) (t .width) r k && holdsWhen t r w places texts
+
+  breaks-asked : breaksTarget t k w u m places texts r ≡ (asked && eqb (targetOf (textOf t r k) u m) 0)
+  unfolding breaksTarget
+  breaks-asked = go (isGiven (t .cells) (t .width) r k)
+    where
+      go : (b : Bool) → (b && (holdsWhen t r w places texts && eqb (targetOf (textOf t r k) u m) 0)) ≡ ((b && holdsWhen t r w places texts) && eqb (targetOf (textOf t r k) u m) 0)
+      go true = refl
+      go false = refl
+
+  pub unasked-holds : asked ≡ false → breaksTarget t k w u m places texts r ≡ false
+  unasked-holds e = breaks-asked ∙ rw e
+
+  -- the value stands where its cell says
+  module _ (at : ℕ) (is : at ≡ startOf (t .cells) (t .width) r k) where
+    pub target-holds : eqb (targetOf (charsAt (t .bytes) at) u m) 0 ≡ false → breaksTarget t k w u m places texts r ≡ false
+    unfolding textOf
+    target-holds e = breaks-asked ∙ (rw (← is, e) (go asked))
+      where
+        go : (b : Bool) → (b && false) ≡ false
+        go true = refl
+        go false = refl
+
+    pub asked-breaks : asked ≡ true → eqb (targetOf (charsAt (t .bytes) at) u m) 0 ≡ breaksTarget t k w u m places texts r
+    unfolding textOf
+    asked-breaks e = sym (breaks-asked ∙ rw (e, ← is))

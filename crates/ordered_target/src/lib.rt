@@ -1,21 +1,113 @@
-// A value that some record of another table must have too, looked up in an order of that table's
-// records.
+// A value that some record of another table must have too. Tables mostly name their targets one after the
+// other, so the record behind the target found last is tried first, and then that one again. Only where
+// neither is it, the target records are put in order, and the value is looked up.
 ghost use mathlib.Core.Path.{_≡_};
-ghost use Rattle.rule_cells.specs.Cells.{table, firstThat};
-ghost use Rattle.rule_target.specs.Target.{targetRule};
-ghost use Rattle.ordered_target.specs.Found.{breaksLookup};
+ghost use mathlib.Core.Bool.{true, false, not, _&&_};
+ghost use Prim.Native.Nat.{_-_, _≤_};
+ghost use lib.ListN.{length};
+ghost use lib.Dec.{eqb};
+ghost use Rattle.json_chars.specs.Chars.{charsAt};
+ghost use Rattle.json_same.specs.Same.{sameAs};
+ghost use Rattle.json_same.specs.declared.Case.the-variants.{Folded};
+ghost use Rattle.rule_cells.specs.Cells.{table, textOf, isGiven, firstFrom, firstThat};
+ghost use Rattle.rule_when.specs.When.{holdsWhen};
+ghost use Rattle.rule_target.specs.Target.{targetOf, breaksTarget, targetRule};
+ghost use Rattle.key_order.specs.Order.{sumsOf, inKeyOrder, areFit};
+ghost use Rattle.key_lookup.specs.Lookup.{keyOf, isFound};
+ghost use Rattle.ordered_target.specs.Found.{oneText};
+use json_same::Case;
+use json_same::same_text;
 use key_lookup::Lookup;
-use key_lookup::is_found;
 use key_lookup::key_of;
+use key_lookup::place_of;
 use key_order::key_order;
+use key_sum::key_sum;
 use rule_cells::is_given;
 use rule_cells::start_of;
 use rule_target::Target;
 use rule_target::target_rule;
 use rule_when::holds_when;
 
-// Whether record r breaks a target rule, its target looked up.
-fn breaks_lookup(
+// Whether a target was found, and near which record the next one is tried: the one that was found last.
+struct Near {
+    found: bool,
+    record: usize,
+}
+
+// The record that a walk has come to, and near which the next target is tried.
+struct Reached {
+    record: usize,
+    near: usize,
+}
+
+// Whether record q of the target table is one that has the text at `at`.
+fn is_target(
+    s: &[u8],
+    at: usize,
+    u: &[u8],
+    u_cells: &[u32],
+    u_width: usize,
+    u_records: usize,
+    m: usize,
+    q: usize,
+) -> bool
+    ensures { λ x. ⌜ (x ≡ true → eqb (targetOf (charsAt (now (s .entry)) at) (table (now (u .entry)) (now («u_cells» .entry)) «u_width» «u_records») m) 0 ≡ false) ⌝ }
+{
+    if q < u_records {
+        return same_text(s, at, u, start_of(u_cells, u_width, q, m), Case::Folded);
+    }
+    false
+}
+
+// Tries the record behind the one that was found last, and then that one.
+fn guess(
+    s: &[u8],
+    at: usize,
+    u: &[u8],
+    u_cells: &[u32],
+    u_width: usize,
+    u_records: usize,
+    m: usize,
+    near: usize,
+) -> Near
+    ensures { λ x. ⌜ (x .found ≡ true → eqb (targetOf (charsAt (now (s .entry)) at) (table (now (u .entry)) (now («u_cells» .entry)) «u_width» «u_records») m) 0 ≡ false) ⌝ }
+{
+    if near < u_records {
+        let next = near + 1;
+        if is_target(s, at, u, u_cells, u_width, u_records, m, next) {
+            return Near {
+                found: true,
+                record: next,
+            };
+        }
+    }
+    Near {
+        found: is_target(s, at, u, u_cells, u_width, u_records, m, near),
+        record: near,
+    }
+}
+
+// Whether record r breaks the rule if no target record has its value.
+fn is_asked(
+    s: &[u8],
+    cells: &[u32],
+    width: usize,
+    r: usize,
+    t: Target,
+    places: &[u32],
+    texts: &[u8],
+) -> bool
+    ensures { λ x. ⌜ x ≡ (isGiven (now (cells .entry)) width r (t .k) && holdsWhen (table (now (s .entry)) (now (cells .entry)) width 0) r (t .when) (now (places .entry)) (now (texts .entry))) ⌝ }
+{
+    if is_given(cells, width, r, t.k) {
+        let when = t.when;
+        return holds_when(s, cells, width, r, when, places, texts);
+    }
+    false
+}
+
+// Whether record r surely holds: its target is not asked for, or it was guessed.
+fn guess_record(
     s: &[u8],
     cells: &[u32],
     width: usize,
@@ -24,27 +116,164 @@ fn breaks_lookup(
     u: &[u8],
     u_cells: &[u32],
     u_width: usize,
-    l: Lookup,
-    sums: &[u32],
-    order: &[u32],
+    u_records: usize,
     places: &[u32],
     texts: &[u8],
-) -> bool
-    ensures { λ x. ⌜ x ≡ breaksLookup (table (now (s .entry)) (now (cells .entry)) width 0) (t .k) (t .when) (table (now (u .entry)) (now («u_cells» .entry)) «u_width» 0) l (now (sums .entry)) (now (order .entry)) (now (places .entry)) (now (texts .entry)) r ⌝ }
+    near: usize,
+) -> Near
+    ensures { λ x. ⌜ (x .found ≡ true → breaksTarget (table (now (s .entry)) (now (cells .entry)) width 0) (t .k) (t .when) (table (now (u .entry)) (now («u_cells» .entry)) «u_width» «u_records») (t .m) (now (places .entry)) (now (texts .entry)) r ≡ false) ⌝ }
+    ensures { λ x. ⌜ (x .found ≡ false → (isGiven (now (cells .entry)) width r (t .k) && holdsWhen (table (now (s .entry)) (now (cells .entry)) width 0) r (t .when) (now (places .entry)) (now (texts .entry))) ≡ true) ⌝ }
 {
-    let k = t.k;
-    let when = t.when;
-    if !is_given(cells, width, r, k) {
-        return false;
+    if is_asked(s, cells, width, r, t, places, texts) {
+        let at = start_of(cells, width, r, t.k);
+        return guess(s, at, u, u_cells, u_width, u_records, t.m, near);
     }
-    if !holds_when(s, cells, width, r, when, places, texts) {
-        return false;
+    Near {
+        found: true,
+        record: near,
     }
-    let at = start_of(cells, width, r, k);
-    !is_found(s, at, u, u_cells, u_width, l, sums, order)
 }
 
-// The first record that breaks a target rule, counted from 1; 0 where there is none.
+// A text in field m alone.
+fn one_text(m: usize) -> Lookup
+    ensures { λ r. ⌜ r ≡ oneText m ⌝ }
+{
+    Lookup {
+        m,
+        k: 0,
+        kind: 0,
+        also: 0,
+    }
+}
+
+// Whether record q of the target table has the text at `at`.
+fn compare_with(
+    s: &[u8],
+    at: usize,
+    u: &[u8],
+    u_cells: &[u32],
+    u_width: usize,
+    m: usize,
+    q: u32,
+) -> Near
+    ensures { λ x. ⌜ x .found ≡ sameAs Folded (charsAt (now (s .entry)) at) (textOf (table (now (u .entry)) (now («u_cells» .entry)) «u_width» 0) q m) ⌝ }
+{
+    let record = q as usize;
+    let start = start_of(u_cells, u_width, record, m);
+    Near {
+        found: same_text(s, at, u, start, Case::Folded),
+        record,
+    }
+}
+
+// Looks the text at `at` up in an order of the target records, and tells which one it is.
+fn look_up(
+    s: &[u8],
+    at: usize,
+    u: &[u8],
+    u_cells: &[u32],
+    u_width: usize,
+    m: usize,
+    sums: &[u32],
+    order: &[u32],
+) -> Near
+    ensures { λ x. ⌜ x .found ≡ isFound (table (now (u .entry)) (now («u_cells» .entry)) «u_width» 0) (oneText m) (now (sums .entry)) (now (order .entry)) (charsAt (now (s .entry)) at) ⌝ }
+{
+    let sum = key_sum(s, at);
+    let i = place_of(s, at, sum, u, u_cells, u_width, one_text(m), sums, order);
+    if i < order.len() {
+        return compare_with(s, at, u, u_cells, u_width, m, order[i]);
+    }
+    Near {
+        found: false,
+        record: 0,
+    }
+}
+
+// Whether record r holds: its target is guessed, or else looked up.
+fn find_record(
+    s: &[u8],
+    cells: &[u32],
+    width: usize,
+    r: usize,
+    t: Target,
+    u: &[u8],
+    u_cells: &[u32],
+    u_width: usize,
+    u_records: usize,
+    places: &[u32],
+    texts: &[u8],
+    sums: &[u32],
+    order: &[u32],
+    near: usize,
+) -> Near
+    requires { ⌜ (now sums ≡ sumsOf (table (now u) (now «u_cells») «u_width» 0) (t .m) «u_records») × (now order ≡ inKeyOrder (table (now u) (now «u_cells») «u_width» 0) (keyOf (oneText (t .m))) «u_records») ⌝ }
+    ensures { λ x. ⌜ not (x .found) ≡ breaksTarget (table (now (s .entry)) (now (cells .entry)) width 0) (t .k) (t .when) (table (now (u .entry)) (now («u_cells» .entry)) «u_width» «u_records») (t .m) (now (places .entry)) (now (texts .entry)) r ⌝ }
+{
+    let tried = guess_record(
+        s,
+        cells,
+        width,
+        r,
+        t,
+        u,
+        u_cells,
+        u_width,
+        u_records,
+        places,
+        texts,
+        near,
+    );
+    if tried.found {
+        return tried;
+    }
+    let at = start_of(cells, width, r, t.k);
+    look_up(s, at, u, u_cells, u_width, t.m, sums, order)
+}
+
+// Walks to the first record whose target can't be guessed: none before it breaks the rule.
+fn first_unguessed(
+    s: &[u8],
+    cells: &[u32],
+    width: usize,
+    records: usize,
+    t: Target,
+    u: &[u8],
+    u_cells: &[u32],
+    u_width: usize,
+    u_records: usize,
+    places: &[u32],
+    texts: &[u8],
+) -> Reached
+    ensures { λ x. ⌜ firstThat (breaksTarget (table (now (s .entry)) (now (cells .entry)) width 0) (t .k) (t .when) (table (now (u .entry)) (now («u_cells» .entry)) «u_width» «u_records») (t .m) (now (places .entry)) (now (texts .entry))) records ≡ firstFrom (breaksTarget (table (now (s .entry)) (now (cells .entry)) width 0) (t .k) (t .when) (table (now (u .entry)) (now («u_cells» .entry)) «u_width» «u_records») (t .m) (now (places .entry)) (now (texts .entry))) (records - x .record) (x .record) ⌝ }
+{
+    let mut r = 0;
+    let mut near = 0;
+    while r < records {
+        let tried = guess_record(
+            s,
+            cells,
+            width,
+            r,
+            t,
+            u,
+            u_cells,
+            u_width,
+            u_records,
+            places,
+            texts,
+            near,
+        );
+        if !tried.found {
+            return Reached { record: r, near };
+        }
+        near = tried.record;
+        r += 1;
+    }
+    Reached { record: r, near }
+}
+
+// From a record on, the first one that breaks the rule, counted from 1; 0 where there is none.
 fn first_unfound(
     s: &[u8],
     cells: &[u32],
@@ -54,17 +283,20 @@ fn first_unfound(
     u: &[u8],
     u_cells: &[u32],
     u_width: usize,
-    l: Lookup,
-    sums: &[u32],
-    order: &[u32],
+    u_records: usize,
     places: &[u32],
     texts: &[u8],
+    sums: &[u32],
+    order: &[u32],
+    from: Reached,
 ) -> usize
-    ensures { λ x. ⌜ x ≡ firstThat (breaksLookup (table (now (s .entry)) (now (cells .entry)) width 0) (t .k) (t .when) (table (now (u .entry)) (now («u_cells» .entry)) «u_width» 0) l (now (sums .entry)) (now (order .entry)) (now (places .entry)) (now (texts .entry))) records ⌝ }
+    requires { ⌜ (now sums ≡ sumsOf (table (now u) (now «u_cells») «u_width» 0) (t .m) «u_records») × (now order ≡ inKeyOrder (table (now u) (now «u_cells») «u_width» 0) (keyOf (oneText (t .m))) «u_records») ⌝ }
+    ensures { λ x. ⌜ x ≡ firstFrom (breaksTarget (table (now (s .entry)) (now (cells .entry)) width 0) (t .k) (t .when) (table (now (u .entry)) (now («u_cells» .entry)) «u_width» «u_records») (t .m) (now (places .entry)) (now (texts .entry))) (records - from .record) (from .record) ⌝ }
 {
-    let mut r = 0;
+    let mut r = from.record;
+    let mut near = from.near;
     while r < records {
-        if breaks_lookup(
+        let tried = find_record(
             s,
             cells,
             width,
@@ -73,23 +305,24 @@ fn first_unfound(
             u,
             u_cells,
             u_width,
-            l,
-            sums,
-            order,
+            u_records,
             places,
             texts,
-        ) {
+            sums,
+            order,
+            near,
+        );
+        if !tried.found {
             return r + 1;
         }
+        near = tried.record;
         r += 1;
     }
     0
 }
 
-// The first record whose value no target record has, counted from 1; 0 where there is none: through an
-// order of the target records in the lent lists. Where these are not as long as there are target
-// records, each value is searched among all of them.
-pub fn target_rule_in(
+// The same, once the target records are in order in the lent lists.
+fn unfound_in_order(
     s: &[u8],
     cells: &[u32],
     width: usize,
@@ -104,16 +337,96 @@ pub fn target_rule_in(
     sums: &mut [u32],
     order: &mut [u32],
     scratch: &mut [u32],
+    from: Reached,
+) -> usize
+    requires { ⌜ (areFit (now sums) (now order) (now scratch) ≡ true) × (length (now order) ≡ «u_records») ⌝ }
+    ensures { λ x. ⌜ x ≡ firstFrom (breaksTarget (table (now (s .entry)) (now (cells .entry)) width 0) (t .k) (t .when) (table (now (u .entry)) (now («u_cells» .entry)) «u_width» «u_records») (t .m) (now (places .entry)) (now (texts .entry))) (records - from .record) (from .record) ⌝ }
+{
+    key_order(
+        u,
+        u_cells,
+        u_width,
+        key_of(one_text(t.m)),
+        sums,
+        order,
+        scratch,
+    );
+    first_unfound(
+        s,
+        cells,
+        width,
+        records,
+        t,
+        u,
+        u_cells,
+        u_width,
+        u_records,
+        places,
+        texts,
+        sums,
+        order,
+        from,
+    )
+}
+
+// The same in lists of its own.
+fn unfound_from(
+    s: &[u8],
+    cells: &[u32],
+    width: usize,
+    records: usize,
+    t: Target,
+    u: &[u8],
+    u_cells: &[u32],
+    u_width: usize,
+    u_records: usize,
+    places: &[u32],
+    texts: &[u8],
+    from: Reached,
+) -> usize
+    requires { ⌜ «u_records» ≤ 4096 ⌝ }
+    ensures { λ x. ⌜ x ≡ firstFrom (breaksTarget (table (now (s .entry)) (now (cells .entry)) width 0) (t .k) (t .when) (table (now (u .entry)) (now («u_cells» .entry)) «u_width» «u_records») (t .m) (now (places .entry)) (now (texts .entry))) (records - from .record) (from .record) ⌝ }
+{
+    let mut sums = [0u32; 4096];
+    let mut order = [0u32; 4096];
+    let mut scratch = [0u32; 4096];
+    unfound_in_order(
+        s,
+        cells,
+        width,
+        records,
+        t,
+        u,
+        u_cells,
+        u_width,
+        u_records,
+        places,
+        texts,
+        &mut sums[..u_records],
+        &mut order[..u_records],
+        &mut scratch[..u_records],
+        from,
+    )
+}
+
+// The first record whose value no target record has, counted from 1; 0 where there is none. Of more target
+// records than a table has, each value is searched among all of them.
+pub fn target_rule_by_order(
+    s: &[u8],
+    cells: &[u32],
+    width: usize,
+    records: usize,
+    t: Target,
+    u: &[u8],
+    u_cells: &[u32],
+    u_width: usize,
+    u_records: usize,
+    places: &[u32],
+    texts: &[u8],
 ) -> usize
     ensures { λ x. ⌜ x ≡ targetRule (table (now (s .entry)) (now (cells .entry)) width records) (t .k) (t .when) (table (now (u .entry)) (now («u_cells» .entry)) «u_width» «u_records») (t .m) (now (places .entry)) (now (texts .entry)) ⌝ }
 {
-    let l = Lookup {
-        m: t.m,
-        k: 0,
-        kind: 0,
-        also: 0,
-    };
-    if order.len() != u_records {
+    if 4096 < u_records {
         return target_rule(
             s,
             cells,
@@ -128,24 +441,7 @@ pub fn target_rule_in(
             texts,
         );
     }
-    if key_order(u, u_cells, u_width, key_of(l), sums, order, scratch) {
-        return first_unfound(
-            s,
-            cells,
-            width,
-            records,
-            t,
-            u,
-            u_cells,
-            u_width,
-            l,
-            sums,
-            order,
-            places,
-            texts,
-        );
-    }
-    target_rule(
+    let from = first_unguessed(
         s,
         cells,
         width,
@@ -157,5 +453,22 @@ pub fn target_rule_in(
         u_records,
         places,
         texts,
-    )
+    );
+    if from.record < records {
+        return unfound_from(
+            s,
+            cells,
+            width,
+            records,
+            t,
+            u,
+            u_cells,
+            u_width,
+            u_records,
+            places,
+            texts,
+            from,
+        );
+    }
+    0
 }

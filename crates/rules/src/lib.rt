@@ -11,7 +11,7 @@ use mark_numbers::Mark;
 use ordered_key::key_rule_in;
 use ordered_leaf::leaf_rule_in;
 use ordered_outline::parent_type_rule_in;
-use ordered_target::target_rule_in;
+use ordered_target::target_rule_by_order;
 use parts::part;
 use rule_dates::in_order;
 use rule_hours::all_given;
@@ -30,7 +30,6 @@ use rule_outline::parent_type_rule;
 use rule_shape::Rule;
 use rule_shape::rule_at;
 use rule_target::Target;
-use rule_target::target_rule;
 use rule_tree::tree_level_rule;
 use rule_tree::tree_parent_rule;
 use rule_value::FieldRule;
@@ -287,25 +286,7 @@ fn target_break(
         when,
         m: id,
     };
-    let mut sums = [0u32; 4096];
-    let mut order = [0u32; 4096];
-    let mut scratch = [0u32; 4096];
-    if 4096 < u_records {
-        return alone(target_rule(
-            s,
-            cells,
-            width,
-            records,
-            asked,
-            u,
-            u_cells,
-            u_width,
-            u_records,
-            places,
-            texts,
-        ));
-    }
-    alone(target_rule_in(
+    alone(target_rule_by_order(
         s,
         cells,
         width,
@@ -317,9 +298,6 @@ fn target_break(
         u_records,
         places,
         texts,
-        &mut sums[..u_records],
-        &mut order[..u_records],
-        &mut scratch[..u_records],
     ))
 }
 

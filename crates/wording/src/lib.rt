@@ -128,7 +128,7 @@ fn contract_kind(kind: u32) -> usize
 }
 
 // A value; all functions from here on put what they make into an output as `output` does.
-fn put_value(out: &mut [u8], at: usize, value: &[u8]) -> usize
+pub fn put_value(out: &mut [u8], at: usize, value: &[u8]) -> usize
     ensures { λ r. ⌜ outputAt (now (out .exit)) r ≡ put (outputAt (now (out .entry)) at) (valueText (now (value .entry))) ⌝ }
 {
     if value.len() == 0 {

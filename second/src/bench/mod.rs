@@ -1,6 +1,7 @@
 //! The sets that `./bench` measures: `plan` invents a schedule, `files` writes
-//! its tables, and `sets` makes whole sets of a size.
+//! its tables, `sets` makes whole sets of a size, and `chains` of links alone.
 
+pub mod chains;
 mod files;
 mod plan;
 pub mod sets;

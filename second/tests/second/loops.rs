@@ -2,7 +2,7 @@
 //! way.
 
 use crate::sample::Set;
-use second::compare::loops::case::{LoopsCase, NOTHING, REFUSED, RING};
+use second::compare::loops::case::{Answer, Form, LoopsCase, NOTHING, RING};
 use second::compare::loops::cases::{all_cases, bundle_of, links_file};
 use second::compare::run::Question;
 use second::loops::{find_loop, is_loop, links_of, loop_text, show_loop, Link, Shown};
@@ -57,16 +57,23 @@ fn reading_4_the_list_is_untouched_but_for_the_loop() {
 
 #[test]
 fn reading_5_the_program_prints_a_line() {
-    assert_eq!(loop_text(&bundle_of(&[("A", "B"), ("x", "X")])), "2\n");
-    assert_eq!(loop_text(&bundle_of(&[("A", "B")])), "none\n");
-    assert_eq!(loop_text(b""), "bundle 1\n");
-    assert_eq!(loop_text(&Set::empty().with(14, "{").bundle()), "bundle 12\n");
+    let printed = |bundle: &[u8]| loop_text(bundle, false);
+    assert_eq!(printed(&bundle_of(&[("A", "B"), ("x", "X")])), "2\n");
+    assert_eq!(printed(&bundle_of(&[("A", "B")])), "none\n");
+    assert_eq!(printed(b""), "bundle 1\n");
+    assert_eq!(printed(&Set::empty().with(14, "{").bundle()), "bundle 12\n");
     let long = Set::empty().with(14, &format!("[{}]", " ".repeat(65_536 - 164 - 2)));
-    assert_eq!(loop_text(&long.bundle()), "none\n");
+    assert_eq!(printed(&long.bundle()), "none\n");
     let longer = Set::empty().with(14, &format!("[{}]", " ".repeat(65_536 - 164 - 1)));
-    assert_eq!(loop_text(&longer.bundle()), "bundle 1\n");
-    let ring = loop_text(&bundle_of(&[("A", "B"), ("B", "C"), ("C", "A")]));
+    assert_eq!(printed(&longer.bundle()), "bundle 1\n");
+    let ring = printed(&bundle_of(&[("A", "B"), ("B", "C"), ("C", "A")]));
     assert!(["1 2 3\n", "2 3 1\n", "3 1 2\n"].contains(&&ring[..]));
+    let explained = loop_text(&bundle_of(&[("b", "c"), ("a\\/", "A/")]), true);
+    let line = r#"TaskRelationships record 2: SuccessorTaskID "A/" waits for PredecessorTaskID "a\/""#;
+    let end = " and leads back to record 2. Take a link of the loop out.\n";
+    assert_eq!(explained, format!("2\n{line}{end}"));
+    assert_eq!(loop_text(&bundle_of(&[("A", "B")]), true), "none\n");
+    assert_eq!(loop_text(b"", true), "bundle 1\n");
 }
 
 /// There is a loop exactly if links stay once those are taken away, again and
@@ -86,56 +93,79 @@ fn has_loop(links: &[Link]) -> bool {
     }
 }
 
+/// Those that ask for a list, or those that ask for a text.
+fn cases_of(seed: u64, texts: bool) -> Vec<LoopsCase> {
+    all_cases(seed).into_iter().filter(|case| (case.form != Form::List) == texts).collect()
+}
+
 #[test]
 fn loops_are_found_exactly_where_they_are() {
     let mut rings = 0;
-    for case in all_cases(6).iter().filter(|case| case.bundle.len() < 50_000) {
-        let answer = case.answer();
+    for case in cases_of(6, false).iter().filter(|case| case.bundle.len() < 50_000) {
+        let (shown, list) = case.shown();
         let Ok(links) = links_of(&case.bundle) else {
-            assert_eq!(answer.tag, REFUSED);
+            assert!(matches!(shown, Shown::Refused(_)));
             continue;
         };
         let looped = has_loop(&links);
-        match answer.tag {
-            REFUSED => assert_eq!((answer.number, case.list < links.len() as u32), (13, true)),
-            NOTHING => assert!(!looped),
-            RING => {
-                rings += 1;
-                assert!(looped && is_loop(&links, &answer.list[..answer.number as usize]));
+        match shown {
+            Shown::Refused(refusal) => {
+                assert_eq!((refusal, case.list < links.len() as u32), (13, true))
             }
-            _ => unreachable!("there are three tags"),
+            Shown::Nothing => assert!(!looped),
+            Shown::Ring(length) => {
+                rings += 1;
+                assert!(looped && is_loop(&links, &list[..length]));
+                continue;
+            }
         }
-        if answer.tag != RING {
-            assert_eq!(answer.list, case.filled());
-        }
+        assert_eq!(list, case.filled());
     }
     assert!(rings > 3_000);
 }
 
 #[test]
 fn wrong_loops_are_caught() {
-    let case = |case: &&LoopsCase| case.answer().tag == RING && case.answer().number > 2;
-    let cases = all_cases(2);
+    let cases = cases_of(2, false);
     let small = || cases.iter().filter(|case| case.bundle.len() < 2_000);
-    let caught = small().filter(case).filter(|case| {
-        let mut wrong = case.answer();
-        wrong.list[..wrong.number as usize].reverse();
-        !case.agrees(&case.answer(), &wrong)
-    });
-    assert!(caught.count() > 300);
-    let none = |case: &&LoopsCase| {
-        let mut wrong = case.answer();
-        (wrong.tag, wrong.number) = (NOTHING, 0);
-        case.answer().tag == RING && !case.agrees(&case.answer(), &wrong)
+    let ring = |case: &LoopsCase| match case.shown() {
+        (Shown::Ring(length), list) => Some((length, list)),
+        _ => None,
+    };
+    let agrees = |case: &LoopsCase, tag: u32, number: usize, list: Vec<u32>| {
+        case.agrees(&case.answer(), &Answer::List { tag, number: number as u32, list })
+    };
+    let reversed = |case: &&LoopsCase| match ring(case) {
+        Some((length, mut list)) => {
+            list[..length].reverse();
+            length > 2 && !agrees(case, RING, length, list)
+        }
+        None => false,
+    };
+    assert!(small().filter(reversed).count() > 300);
+    let none = |case: &&LoopsCase| match ring(case) {
+        Some((_, list)) => !agrees(case, NOTHING, 0, list),
+        None => false,
     };
     assert!(small().filter(none).count() > 3_000);
     let touched = |case: &&LoopsCase| {
         let mut wrong = case.answer();
-        for entry in wrong.list.iter_mut().rev().take(1) {
-            *entry ^= 1;
+        match &mut wrong {
+            Answer::List { list, .. } => {
+                for entry in list.iter_mut().rev().take(1) {
+                    *entry ^= 1;
+                }
+            }
+            Answer::Text(text) => {
+                let middle = text.len() / 2;
+                text[middle] ^= 1;
+            }
         }
         !case.agrees(&case.answer(), &wrong)
     };
     assert!(small().filter(touched).count() > 5_000);
+    let texts = cases_of(2, true);
+    let few = || texts.iter().filter(|case| case.bundle.len() < 2_000);
+    assert!(few().filter(touched).count() > 20_000);
     assert_eq!(find_loop(&[]), None);
 }

@@ -5,10 +5,11 @@ use mathlib.Core.Path.{sym}
 use native.Mathlib.Omega.{arith}
 use lib.ListN.{length-replicate}
 use borrow.Author.Needs.{needs}
+use Rattle.key_order.proofs.Lists.{fit-lists}
 use Rattle.cost_element.proofs.fill_elements.Statement.{statement}
 use Rattle.cost_element.proofs.fill_elements.Tie as tie
 use lib.Seq.{length-take-le}
-use Rattle.cost_element.proofs.Laws.{elements-kept, elements-found, fit-lists}
+use Rattle.cost_element.proofs.Laws.{elements-kept, elements-found}
 
 returns : tie.Need-returns
 returns c = elements-kept _ _ _ _ (c .if1 .taken)
@@ -41,7 +42,7 @@ slice-aggregate-fill-in-order-4 : tie.Need-slice-aggregate-fill-in-order-4
 slice-aggregate-fill-in-order-4 c = sym (length-take-le _ _ (omega (arith, length-replicate {A = ℕ} 4096 0)))
 
 fill-in-order-requires : tie.Need-fill-in-order-requires
-fill-in-order-requires c κs = (search needs, fit-lists _ _ _ _ (c .before .before .before .before .before .before .before .before .if1 .left) (length-take-le _ _ (omega (arith, length-replicate {A = ℕ} 4096 0))) (length-take-le _ _ (omega (arith, length-replicate {A = ℕ} 4096 0))) (length-take-le _ _ (omega (arith, length-replicate {A = ℕ} 4096 0))))
+fill-in-order-requires c κs = (search needs _ _ _ _ (c .before .before .before .before .before .before .before .before .if1 .left) (length-take-le _ _ (omega (arith, length-replicate {A = ℕ} 4096 0))) (length-take-le _ _ (omega (arith, length-replicate {A = ℕ} 4096 0))) (length-take-le _ _ (omega (arith, length-replicate {A = ℕ} 4096 0))))
 
 same-length : tie.Need-same-length
 same-length c = search needs

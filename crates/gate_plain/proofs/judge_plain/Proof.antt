@@ -1,4 +1,4 @@
--- `gate_plain::judge_plain` meets its contract: refused as the other engine refuses, or every mark.
+-- `gate_plain::judge_plain` meets its contract: refused, or every mark.
 use Prim.Native.Nat.{ℕ, _+_, _-_, _/_, _≤_, _<_}
 use mathlib.Core.Path.{_≡_, sym, refl, ap, _∙_}
 use native.Mathlib.Omega.{arith}
@@ -6,7 +6,7 @@ use lib.ListN.{length, take, length-replicate}
 use lib.Seq.{length-take-le}
 use denote.Ref.{now}
 use Rattle.mark_numbers.proofs.Laws.{Long, long-lists}
-use Rattle.gate_plain.proofs.Laws.{own-cells, plain-verdict}
+use Rattle.gate_plain.proofs.Laws.{own-cells, refused-verdict, plain-verdict}
 use borrow.Author.Needs.{needs}
 use Rattle.gate_plain.proofs.judge_plain.Statement.{statement}
 use Rattle.gate_plain.proofs.judge_plain.Tie as tie
@@ -14,11 +14,11 @@ use Rattle.gate_plain.proofs.judge_plain.Tie as tie
 bundle-fault-requires : tie.Need-bundle-fault-requires
 bundle-fault-requires c κs = search needs
 
-judge-requires : tie.Need-judge-requires
-judge-requires c κs = search needs
+fresh-requires : tie.Need-fresh-requires
+fresh-requires c κs = search needs
 
 returns : tie.Need-returns
-returns c = c .judge .ensures
+returns c = refused-verdict _ (c .before .before .bundle-fault .ensures) (c .before .if1 .taken) (c .fresh .ensures)
 
 slice-aggregate-put-schedule : tie.Need-slice-aggregate-put-schedule
 slice-aggregate-put-schedule c = sym (length-replicate {A = ℕ} 524288 0)
@@ -50,7 +50,7 @@ judge-plain-spec =
     tie.close
     (tie.spec
     bundle-fault-requires
-    judge-requires
+    fresh-requires
     returns
     slice-aggregate-put-schedule
     slice-aggregate-put-schedule-2

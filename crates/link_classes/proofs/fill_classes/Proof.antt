@@ -6,9 +6,10 @@ use native.Mathlib.Omega.{arith}
 use borrow.Author.Needs.{needs}
 use lib.ListN.{length-replicate}
 use lib.Seq.{length-take-le}
+use Rattle.key_order.proofs.Lists.{fit-lists}
 use Rattle.link_classes.proofs.fill_classes.Statement.{statement}
 use Rattle.link_classes.proofs.fill_classes.Tie as tie
-use Rattle.link_classes.proofs.Columns.{too-many, unequal, fit-lists, columns-filled}
+use Rattle.link_classes.proofs.Columns.{too-many, unequal, columns-filled}
 
 returns : tie.Need-returns
 returns c = too-many _ _ _ (c .if1 .taken)

@@ -15,7 +15,7 @@ slice-aggregate-answer-all-3 : tie.Need-slice-aggregate-answer-all-3
 slice-aggregate-answer-all-3 c = sym (length-replicate {A = ℕ} 40960 2779096485)
 
 slice-aggregate-answer-all-4 : tie.Need-slice-aggregate-answer-all-4
-slice-aggregate-answer-all-4 c = sym (length-replicate {A = ℕ} 20008 0)
+slice-aggregate-answer-all-4 c = sym (length-replicate {A = ℕ} 1280000 0)
 
 answer-all-requires : tie.Need-answer-all-requires
 answer-all-requires c κs = tt

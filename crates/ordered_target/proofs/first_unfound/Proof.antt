@@ -1,33 +1,32 @@
 -- `ordered_target::first_unfound` meets its contract: what is left of the search at the loop's head answers as the whole does.
-use Prim.Native.Nat.{_-_}
-use mathlib.Core.Path.{_≡_, sym, _∙_}
-use native.Mathlib.Nat.{sub-zero}
-use native.Mathlib.Omega.{arith}
 use borrow.Author.Needs.{needs}
-use Rattle.rule_cells.specs.Cells.{table, firstFrom, firstThat}
+use Prim.Native.Nat.{_-_}
+use mathlib.Core.Path.{_≡_, refl, sym, _∙_}
+use native.Mathlib.Omega.{arith}
+use Rattle.rule_cells.specs.Cells.{table, firstFrom}
 use Rattle.rule_cells.proofs.Laws.{search-hits, search-goes-on, search-ends}
-use Rattle.ordered_target.specs.Found.{breaksLookup}
+use Rattle.rule_target.specs.Target.{breaksTarget}
 use Rattle.ordered_target.proofs.first_unfound.Statement.{statement}
 use Rattle.ordered_target.proofs.first_unfound.Tie as tie
 
 abbrev Inv-loop : tie.InvT-loop
-Inv-loop s cells width records t u u-cells u-width l sums order places texts r₀ r = firstThat (breaksLookup (table s cells width 0) (t .k) (t .when) (table u u-cells u-width 0) l sums order places texts) records ≡ firstFrom (breaksLookup (table s cells width 0) (t .k) (t .when) (table u u-cells u-width 0) l sums order places texts) (records - r) r
+Inv-loop s cells width records t u u-cells u-width u-records places texts sums order r₀ near₀ r near =
+    firstFrom (breaksTarget (table s cells width 0) (t .k) (t .when) (table u u-cells u-width u-records) (t .m) places texts) (records - r₀) r₀ ≡ firstFrom (breaksTarget (table s cells width 0) (t .k) (t .when) (table u u-cells u-width u-records) (t .m) places texts) (records - r) r
 
 abbrev μ-loop : tie.MeasureT-loop
-μ-loop s cells width records t u u-cells u-width l sums order places texts r₀ r = records - r
+μ-loop s cells width records t u u-cells u-width u-records places texts sums order r₀ near₀ r near = records - r
 
 loop-holds : tie.Need-loop-holds Inv-loop μ-loop
-unfolding firstThat
-loop-holds c = rw sub-zero
+loop-holds c = refl
 
-breaks-lookup-requires : tie.Need-breaks-lookup-requires Inv-loop μ-loop
-breaks-lookup-requires c κs = search needs
+find-record-requires : tie.Need-find-record-requires Inv-loop μ-loop
+find-record-requires c κs = search needs
 
 add-result : tie.Need-add-result Inv-loop μ-loop
 add-result c = omega arith
 
 returns : tie.Need-returns Inv-loop μ-loop
-returns c = sym (c .before .before .before .loop .inv ∙ search-hits _ _ _ (c .before .before .loop-test .taken) (sym (c .before .breaks-lookup .ensures) ∙ c .if1 .taken))
+returns c = sym (c .before .before .before .before .loop .inv ∙ search-hits _ _ _ (c .before .before .before .loop-test .taken) (sym (c .before .before .find-record .ensures) ∙ c .if1 .taken))
 
 add-r : tie.Need-add-r Inv-loop μ-loop
 add-r c = omega arith
@@ -36,7 +35,7 @@ loop-less : tie.Need-loop-less Inv-loop μ-loop
 loop-less c = omega arith
 
 loop-again : tie.Need-loop-again Inv-loop μ-loop
-loop-again c = c .before .before .before .loop .inv ∙ search-goes-on _ _ _ (c .before .before .loop-test .taken) (sym (c .before .breaks-lookup .ensures) ∙ c .if1 .left)
+loop-again c = c .before .before .before .before .loop .inv ∙ search-goes-on _ _ _ (c .before .before .before .loop-test .taken) (sym (c .before .before .find-record .ensures) ∙ c .if1 .left)
 
 returns-2 : tie.Need-returns-2 Inv-loop μ-loop
 returns-2 c = sym (c .before .loop .inv ∙ search-ends _ _ _ (c .loop-test .left))
@@ -48,7 +47,7 @@ first-unfound-spec =
     Inv-loop
     μ-loop
     loop-holds
-    breaks-lookup-requires
+    find-record-requires
     add-result
     returns
     add-r

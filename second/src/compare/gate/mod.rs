@@ -9,4 +9,4 @@ pub mod reason_sights;
 pub mod sample;
 pub(super) mod set_draft;
 pub mod sights;
-pub(super) mod styles;
+pub(crate) mod styles;

@@ -62,7 +62,7 @@ fn is_id(table: usize, name: &[u8]) -> bool {
     fields_of(table).any(|field| field.kind == Type::StringID && field.name.as_bytes() == name)
 }
 
-pub(in crate::compare) fn shuffle<T>(list: &mut [T], random: &mut Random) {
+pub(crate) fn shuffle<T>(list: &mut [T], random: &mut Random) {
     for index in (1..list.len()).rev() {
         list.swap(index, random.below(index + 1));
     }

@@ -7,7 +7,7 @@ use std::sync::Arc;
 use super::sights::{self, Sight};
 use crate::board::{Board, Mark, MARKS};
 use crate::compare::gate::answer::{byte_difference, mark_differences};
-use crate::compare::gate::case::{Bytes, Change, Output, LONGEST};
+use crate::compare::gate::case::{Bytes, Change, LONGEST};
 use crate::compare::gates::answer::{read_marks, write_marks};
 use crate::compare::run::{hex, Question};
 use crate::compare::wire::{read_first_word, read_slice_within, read_word, unsound, write_words};
@@ -20,7 +20,17 @@ pub const MAKE: u32 = 2;
 pub const PLAIN: u32 = 3;
 
 /// No list of a case is longer.
-pub const LONGEST_LIST: u32 = 70_000;
+pub const LONGEST_LIST: u32 = 8_192;
+
+/// No bundle of a case is longer, and no output.
+pub const LONGEST_BUNDLE: usize = 240_000;
+pub const LONGEST_OUTPUT: u32 = 20_000;
+
+/// Every byte of what is lent, before the call.
+const LENT: u8 = 0xA5;
+
+/// The marks that a call gets which hands in no board.
+const NO_BOARD: Mark = Mark { kind: 9, place: 9, companion: 9 };
 
 const LONGEST_SHOWN: usize = 600;
 
@@ -30,7 +40,6 @@ pub struct ListedCase {
     pub call: Call,
     /// How many entries the list has.
     pub list: u32,
-    pub seed: u32,
 }
 
 #[derive(Clone, Debug, PartialEq, Eq)]
@@ -39,29 +48,27 @@ pub enum Call {
     Try(Change),
     /// Into an output of that length.
     Make(Change, u32),
-    /// The plain engine's judgement, which needs no list.
+    /// The plain engine's judgement, which takes no list.
     Plain,
 }
 
-/// What a call leaves. Of all but a made change the output is empty, and of the
-/// plain engine the list.
+/// What a call leaves. Of all but a made change the output is empty.
 #[derive(Clone, Debug, PartialEq, Eq)]
 pub struct Answer {
     pub refusal: u32,
-    /// Of the new bundle, which a judgement has none of; 0 if refused.
-    pub length: Option<u32>,
+    /// Of the bundle that was judged; 0 if refused.
+    pub length: u32,
+    /// How many entries the list starts with; 0 if refused, and of the plain engine.
+    pub entries: u32,
     pub board: Vec<Mark>,
     pub output: Vec<u8>,
     pub list: Vec<Entry>,
 }
 
-/// Entry i before the call: four numbers from seed + 28 i on, 7 apart.
-pub fn list_before(length: u32, seed: u32) -> Vec<Entry> {
-    let entry = |at: u32| {
-        let word = |by: u32| seed.wrapping_add(28_u32.wrapping_mul(at)).wrapping_add(by);
-        Entry { start: word(0), length: word(7), sum: word(14), record: word(21) }
-    };
-    (0..length).map(entry).collect()
+/// A list before the call.
+pub fn list_before(length: u32) -> Vec<Entry> {
+    let word = u32::from_le_bytes([LENT; 4]);
+    vec![Entry { start: word, length: word, sum: word, record: word }; length as usize]
 }
 
 impl ListedCase {
@@ -89,27 +96,22 @@ impl ListedCase {
     }
 
     fn read_whole_answer(&self, input: &mut impl Read) -> io::Result<Answer> {
-        let refusal = read_word(input)?;
-        let length = match self.change() {
-            Some(_) => Some(read_word(input)?),
-            None => None,
-        };
+        let (refusal, length) = (read_word(input)?, read_word(input)?);
+        let entries = read_word(input)?;
         let board = read_marks(input, MARKS)?;
-        let output = read_slice_within(input, self.output(), LONGEST)?;
-        let count = if self.op() == PLAIN { 0 } else { self.list };
+        let output = read_slice_within(input, self.output(), LONGEST_OUTPUT as usize)?;
         let mut list = Vec::new();
-        for _ in 0..count {
+        for _ in 0..self.list {
             let (start, length) = (read_word(input)?, read_word(input)?);
             list.push(Entry { start, length, sum: read_word(input)?, record: read_word(input)? });
         }
-        Ok(Answer { refusal, length, board, output, list })
+        Ok(Answer { refusal, length, entries, board, output, list })
     }
 
     /// As many bytes as the case is sent in.
     pub fn sent_length(&self) -> usize {
-        let board = if self.change().is_some() { 12 * MARKS } else { 0 };
         let new = self.change().and_then(|change| change.new.as_deref()).map_or(0, Vec::len);
-        32 + self.bundle.len() + board + new
+        28 + self.bundle.len() + new + 12 * MARKS
     }
 }
 
@@ -117,8 +119,8 @@ impl Question for ListedCase {
     type Answer = Answer;
     type Sight = Sight;
 
-    /// Eight little-endian 32-bit numbers, the bundle, and for a change the
-    /// board and the new bytes.
+    /// Seven little-endian 32-bit numbers, the bundle, the marks that the call gets,
+    /// and the new bytes.
     fn write(&self, out: &mut impl Write) -> io::Result<()> {
         let change = self.change();
         let new = change.and_then(|change| change.new.as_deref());
@@ -130,15 +132,11 @@ impl Question for ListedCase {
             new.map_or(0, |new| new.len() as u32),
             self.output(),
             self.list,
-            self.seed,
         ];
         write_words(out, &header)?;
         out.write_all(&self.bundle)?;
-        if let Some(change) = change {
-            write_marks(out, &change.board.marks)?;
-            out.write_all(new.map_or(&[], Vec::as_slice))?;
-        }
-        Ok(())
+        write_marks(out, &change.map_or([NO_BOARD; MARKS], |change| change.board.marks))?;
+        out.write_all(new.map_or(&[], Vec::as_slice))
     }
 
     fn read(input: &mut impl Read) -> io::Result<Option<ListedCase>> {
@@ -146,39 +144,36 @@ impl Question for ListedCase {
             Some(op) => op,
             None => return Ok(None),
         };
-        let mut words = [0; 7];
+        let mut words = [0; 6];
         for word in &mut words {
             *word = read_word(input)?;
         }
-        let [length, number, present, new, output, list, seed] = words;
+        let [length, number, present, new, output, list] = words;
         let is_change = [TRY, MAKE].contains(&op);
         if present > 1 || (new > 0 && !(is_change && present == 1)) {
             return Err(unsound("there are new bytes without a file for them"));
         }
-        if output as usize > LONGEST || list > LONGEST_LIST {
+        if output > LONGEST_OUTPUT || list > LONGEST_LIST {
             return Err(unsound("an output or a list is too long"));
         }
-        let bundle = Arc::new(read_slice_within(input, length, LONGEST)?);
-        let mut change = || -> io::Result<Change> {
-            let marks = read_marks(input, MARKS)?;
-            let mut board = Board::fresh();
-            board.marks.copy_from_slice(&marks);
-            let bytes = read_slice_within(input, new, LONGEST)?;
-            Ok(Change { board, number, new: (present == 1).then(|| Arc::new(bytes)) })
-        };
+        let bundle = Arc::new(read_slice_within(input, length, LONGEST_BUNDLE)?);
+        let mut board = Board::fresh();
+        board.marks.copy_from_slice(&read_marks(input, MARKS)?);
+        let bytes = read_slice_within(input, new, LONGEST)?;
+        let change = Change { board, number, new: (present == 1).then(|| Arc::new(bytes)) };
         let call = match op {
             JUDGE => Call::Judge,
-            TRY => Call::Try(change()?),
-            MAKE => Call::Make(change()?, output),
+            TRY => Call::Try(change),
+            MAKE => Call::Make(change, output),
             PLAIN => Call::Plain,
             _ => return Err(unsound("there is no such op")),
         };
-        Ok(Some(ListedCase { bundle, call, list, seed }))
+        Ok(Some(ListedCase { bundle, call, list }))
     }
 
     fn answer(&self) -> Answer {
-        let mut list = list_before(self.list, self.seed);
-        let mut output = Output { length: self.output(), seed: self.seed }.filled();
+        let mut list = list_before(self.list);
+        let mut output = vec![LENT; self.output() as usize];
         let new = self.change().and_then(|change| change.new.as_deref()).map(Vec::as_slice);
         let bundle = &self.bundle;
         let listed = match &self.call {
@@ -191,21 +186,18 @@ impl Question for ListedCase {
                 make_listed(bundle, &change.board, file, new, &mut output, &mut list)
             }
             Call::Plain => {
-                list.clear();
                 let verdict = judge(bundle);
-                Listed { refusal: verdict.refusal, length: 0, board: verdict.board }
+                let length = if verdict.refusal == 0 { bundle.len() } else { 0 };
+                Listed { refusal: verdict.refusal, length, entries: 0, board: verdict.board }
             }
         };
-        let Listed { refusal, length, board } = listed;
-        let length = self.change().map(|_| length as u32);
-        Answer { refusal, length, board: board.marks.to_vec(), output, list }
+        let Listed { refusal, length, entries, board } = listed;
+        let (length, entries) = (length as u32, entries as u32);
+        Answer { refusal, length, entries, board: board.marks.to_vec(), output, list }
     }
 
     fn write_answer(answer: &Answer, out: &mut impl Write) -> io::Result<()> {
-        write_words(out, &[answer.refusal])?;
-        if let Some(length) = answer.length {
-            write_words(out, &[length])?;
-        }
+        write_words(out, &[answer.refusal, answer.length, answer.entries])?;
         write_marks(out, &answer.board)?;
         out.write_all(&answer.output)?;
         for Entry { start, length, sum, record } in &answer.list {
@@ -225,13 +217,17 @@ impl Question for ListedCase {
             Call::Try(change) => format!("try, file {}", change.number),
             Call::Make(change, length) => format!("make, file {}, into {length}", change.number),
         };
-        let mut lines = vec![format!("{call}, list of {}, seed {}", self.list, self.seed)];
+        let mut lines = vec![format!("{call}, list of {}", self.list)];
         lines.push(format!("  bundle {}", hex(&self.bundle, LONGEST_SHOWN)));
         if let Some(new) = self.change().and_then(|change| change.new.as_deref()) {
             lines.push(format!("  new {}", hex(new, LONGEST_SHOWN)));
         }
-        let head =
-            |answer: &Answer| format!("refusal {} length {:?}", answer.refusal, answer.length);
+        let head = |answer: &Answer| {
+            format!(
+                "refusal {} length {} entries {}",
+                answer.refusal, answer.length, answer.entries
+            )
+        };
         if head(expected) != head(answered) {
             lines.push(format!("  expected {}", head(expected)));
             lines.push(format!("  answered {}", head(answered)));

@@ -4,7 +4,7 @@
 
 use std::sync::Arc;
 
-use super::case::{Call, ListedCase, LONGEST_LIST};
+use super::case::{Call, ListedCase, LONGEST_BUNDLE, LONGEST_LIST, LONGEST_OUTPUT};
 use crate::board::Board;
 use crate::bundle::{files, FILES};
 use crate::compare::draft::{quoted, Draft};
@@ -57,9 +57,8 @@ struct Cases {
 
 impl Cases {
     fn push(&mut self, bundle: &Bytes, call: Call, list: usize) {
-        let seed = self.random.next_number() as u32;
         let list = list.min(LONGEST_LIST as usize) as u32;
-        self.list.push(ListedCase { bundle: bundle.clone(), call, list, seed });
+        self.list.push(ListedCase { bundle: bundle.clone(), call, list });
     }
 
     /// In a list of some length around the needed one.
@@ -106,19 +105,20 @@ impl Cases {
         }
     }
 
-    /// A case of the gate, asked with a list.
+    /// A case of the gate, asked with a list, unless something in it is too long.
     fn with_list(&mut self, case: &GateCase) {
-        if case.bundle.len() > 300_000 && self.random.below(6) > 0 {
+        if case.bundle.len() > LONGEST_BUNDLE {
             return;
         }
         match &case.call {
             GateCall::Judge => self.around(&case.bundle, Call::Judge),
             GateCall::Try(change) => self.around(&case.bundle, Call::Try(change.clone())),
+            GateCall::Make(_, output) if output.length > LONGEST_OUTPUT => {}
             GateCall::Make(change, output) => {
                 self.around(&case.bundle, Call::Make(change.clone(), output.length));
             }
             GateCall::LookUp(_) | GateCall::Reason(_) => {
-                self.push(&case.bundle, Call::Plain, 3);
+                self.push(&case.bundle, Call::Plain, 0);
             }
         }
     }
@@ -165,9 +165,8 @@ fn add_lengths(cases: &mut Cases, base: &SetDraft) {
         }
     }
     for bundle in [&small, &none] {
-        for call in [Call::Judge, Call::Plain] {
-            cases.push(bundle, call, LONGEST_LIST as usize);
-        }
+        cases.push(bundle, Call::Judge, LONGEST_LIST as usize);
+        cases.push(bundle, Call::Plain, 0);
         let board = cases.board();
         let change = Change { board, number: 7, new: None };
         cases.push(bundle, Call::Try(change.clone()), LONGEST_LIST as usize);
@@ -181,8 +180,8 @@ fn add_lengths(cases: &mut Cases, base: &SetDraft) {
             cases.push(&bundle, Call::Judge, list);
             cases.push(&bundle, Call::Try(change.clone()), list);
             cases.push(&bundle, Call::Make(change.clone(), 500), list);
-            cases.push(&bundle, Call::Plain, list);
         }
+        cases.push(&bundle, Call::Plain, 0);
     }
     add_too_long(cases, &none);
 }

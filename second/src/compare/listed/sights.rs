@@ -7,7 +7,7 @@ use super::case::{list_before, Answer, ListedCase, JUDGE, MAKE, PLAIN, TRY};
 use crate::bundle::{file_part, files, FILES};
 use crate::compare::gate::case::Change;
 use crate::json::{decoded_codes, fold_code};
-use crate::listed::{Entry, LIST_TOO_SHORT};
+use crate::listed::Entry;
 use crate::table::read_file;
 
 #[derive(Clone, Copy, Debug, PartialEq, Eq, PartialOrd, Ord)]
@@ -145,12 +145,12 @@ pub(super) fn sights_of(case: &ListedCase, expected: &Answer) -> Vec<Sight> {
     if op == PLAIN {
         return sights;
     }
-    let before = list_before(case.list, case.seed);
+    let before = list_before(case.list);
     if refusal != 0 {
         if case.list == 0 {
             sights.push(Sight::WithoutList { op, refusal });
         }
-        if expected.list != before || (refusal == LIST_TOO_SHORT && case.list > 65_536) {
+        if expected.list != before {
             sights.push(Sight::Wrong);
         }
         return sights;

@@ -2,7 +2,7 @@
 
 use std::sync::Arc;
 
-use super::case::{LoopsCase, LONGEST_LIST};
+use super::case::{LoopsCase, FORMS, LONGEST_LIST};
 use crate::bundle::FILES;
 use crate::compare::draft::{quoted, Draft};
 use crate::compare::faulty::faulty_files;
@@ -37,10 +37,13 @@ struct Cases {
 }
 
 impl Cases {
+    /// Asked for in each form.
     fn push(&mut self, bundle: &Bytes, list: usize) {
         let seed = self.random.next_number() as u32;
         let list = (list as u32).min(LONGEST_LIST);
-        self.list.push(LoopsCase { bundle: bundle.clone(), list, seed });
+        for form in FORMS {
+            self.list.push(LoopsCase { bundle: bundle.clone(), list, seed, form });
+        }
     }
 
     /// With a list that is long enough.
@@ -167,6 +170,9 @@ fn add_styled(cases: &mut Cases, links: &[(String, String)]) {
 /// IDs that are nearly one: a longer one, another case of no letter, spaces.
 fn add_ids(cases: &mut Cases) {
     let long = "x".repeat(3000);
+    // With its quotes just as long as is printed whole, and an escape where it is cut.
+    let whole = "y".repeat(78);
+    let escaped = "z".repeat(77) + r"\u007A";
     let pairs = [
         ("a", "aa"),
         ("a", "a-"),
@@ -183,6 +189,8 @@ fn add_ids(cases: &mut Cases) {
         ("00", "0"),
         (&long, &long[1..]),
         (&long, &long),
+        (&whole, &whole),
+        (&escaped, &escaped),
     ];
     for (first, second) in pairs {
         for links in [

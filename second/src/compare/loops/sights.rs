@@ -3,10 +3,10 @@
 use std::collections::HashSet;
 use std::fmt::{self, Display};
 
-use super::case::{Answer, LoopsCase, NOTHING, REFUSED};
+use super::case::{Answer, Form, LoopsCase, NOTHING, REFUSED};
 use crate::bundle::files;
 use crate::compare::tables::possible_kinds;
-use crate::loops::{find_loop, links_of, Link};
+use crate::loops::{find_loop, links_of, Link, Shown};
 use crate::table::read_file;
 
 const RELATIONSHIPS: usize = 14;
@@ -54,6 +54,20 @@ pub enum Sight {
     OthersUnreadable {
         looped: bool,
     },
+    /// The text of a refusal, of none and of a loop.
+    ToldRefusal {
+        explained: bool,
+    },
+    ToldNothing {
+        explained: bool,
+    },
+    ToldRing {
+        links: Many,
+        explained: bool,
+    },
+    /// An ID of more than 80 bytes, and one of 80, with its quotes.
+    ToldCut,
+    ToldLong,
 }
 
 #[derive(Clone, Copy, Debug, PartialEq, Eq, PartialOrd, Ord)]
@@ -106,13 +120,42 @@ pub fn wanted() -> Vec<Sight> {
     }
     wanted.extend([Sight::Omitted, Sight::NoRecords, Sight::Twice]);
     wanted.extend([Sight::OnlyFolded, Sight::OnlyDecoded, Sight::TaskTwice]);
+    for explained in BOTH {
+        wanted.extend([Sight::ToldRefusal { explained }, Sight::ToldNothing { explained }]);
+        wanted.extend(MANY.map(|links| Sight::ToldRing { links, explained }));
+    }
+    wanted.extend([Sight::ToldCut, Sight::ToldLong]);
     wanted
 }
 
 pub fn sights_of(case: &LoopsCase, expected: &Answer) -> Vec<Sight> {
+    match (case.form, expected) {
+        (Form::List, Answer::List { tag, number, .. }) => list_sights(case, *tag, *number),
+        (Form::Text { explained }, Answer::Text(text)) => text_sights(case, explained, text),
+        _ => Vec::new(),
+    }
+}
+
+fn text_sights(case: &LoopsCase, explained: bool, text: &[u8]) -> Vec<Sight> {
+    let mut seen = match case.shown().0 {
+        Shown::Refused(_) => vec![Sight::ToldRefusal { explained }],
+        Shown::Nothing => vec![Sight::ToldNothing { explained }],
+        Shown::Ring(length) => vec![Sight::ToldRing { links: many(length), explained }],
+    };
+    let ids = text.split(|byte| *byte == b'"').skip(1).step_by(2).map(<[u8]>::len);
+    if ids.clone().any(|length| length == 78) {
+        seen.push(Sight::ToldLong);
+    }
+    if text.windows(4).any(|bytes| bytes == b"... " || bytes == b"...\n") {
+        seen.push(Sight::ToldCut);
+    }
+    seen
+}
+
+fn list_sights(case: &LoopsCase, tag: u32, number: u32) -> Vec<Sight> {
     let mut seen = Vec::new();
-    if expected.tag == REFUSED {
-        seen.push(Sight::Refusal { refusal: expected.number });
+    if tag == REFUSED {
+        seen.push(Sight::Refusal { refusal: number });
     }
     let parts = match files(&case.bundle) {
         Ok(parts) => parts,
@@ -138,7 +181,7 @@ pub fn sights_of(case: &LoopsCase, expected: &Answer) -> Vec<Sight> {
     if parts[9].map_or(false, |bytes| read_file(9, Some(bytes)).is_err()) {
         seen.push(Sight::OthersUnreadable { looped });
     }
-    match expected.tag {
+    match tag {
         REFUSED => {}
         NOTHING if links.is_empty() => seen.push(Sight::NoRecords),
         NOTHING => {
@@ -148,8 +191,8 @@ pub fn sights_of(case: &LoopsCase, expected: &Answer) -> Vec<Sight> {
             }
         }
         _ => {
-            let ring = many(expected.number as usize);
-            let others = links.len() > expected.number as usize;
+            let ring = many(number as usize);
+            let others = links.len() > number as usize;
             seen.push(Sight::Ring { links: ring, others });
             seen.extend(ring_sights(case, &links));
         }

@@ -81,7 +81,7 @@ impl Question for TextCase {
 
 /// The first line in which two texts differ, of either of them; nothing for one
 /// that has ended there.
-pub(super) fn first_difference(expected: &[u8], answered: &[u8]) -> Vec<String> {
+pub(crate) fn first_difference(expected: &[u8], answered: &[u8]) -> Vec<String> {
     let mut right = expected.split_inclusive(|byte| *byte == b'\n');
     let mut wrong = answered.split_inclusive(|byte| *byte == b'\n');
     let mut number = 1;

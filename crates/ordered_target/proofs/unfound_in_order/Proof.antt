@@ -1,0 +1,43 @@
+-- `ordered_target::unfound_in_order` meets its contract: the lists hold the order of the target records.
+use borrow.Author.Needs.{needs}
+use Rattle.ordered_target.proofs.Laws.{filled}
+use Rattle.ordered_target.proofs.unfound_in_order.Statement.{statement}
+use Rattle.ordered_target.proofs.unfound_in_order.Tie as tie
+
+one-text-requires : tie.Need-one-text-requires
+one-text-requires c κs = search needs
+
+key-of-requires : tie.Need-key-of-requires
+key-of-requires c κs = search needs
+
+key-order-requires : tie.Need-key-order-requires
+key-order-requires c κs = search needs
+
+first-unfound-requires : tie.Need-first-unfound-requires
+first-unfound-requires c κs =
+    filled _ _ _ _ _ _ _ _ _ _ (c .before .before .before .before .before .before .before .before .before .before .before .before .before .one-text .ensures) (c .before .before .before .before .before .before .before .before .before .before .before .before .key-of .ensures) (c .before .before .before .before .before .before .before .before .before .before .before .before .before .before .before .before .before .before .before .before .before .before .before .pre .1) (c .before .before .before .before .before .before .before .before .before .before .before .before .before .before .before .before .before .before .before .before .before .before .before .pre .0) (c .before .before .before .before .before .before .before .before .key-order .ensures .1) (c .before .before .before .before .before .before .before .before .key-order .ensures .2)
+
+same-length : tie.Need-same-length
+same-length c = search needs
+
+same-length-2 : tie.Need-same-length-2
+same-length-2 c = search needs
+
+same-length-3 : tie.Need-same-length-3
+same-length-3 c = search needs
+
+returns : tie.Need-returns
+returns c = search needs
+
+pub unfound-in-order-spec : {M : Type 1} → statement M
+unfound-in-order-spec =
+    tie.close
+    (tie.spec
+    one-text-requires
+    key-of-requires
+    key-order-requires
+    first-unfound-requires
+    same-length
+    same-length-2
+    same-length-3
+    returns)
