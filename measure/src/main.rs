@@ -4,6 +4,7 @@
 //! measure [--time MILLISECONDS] [--seed N]
 
 mod bar;
+mod drawer;
 mod odd;
 mod time;
 
@@ -62,6 +63,11 @@ fn main() {
     println!("|---|---:|---:|---:|---:|");
     for (name, set) in odd_sets() {
         bench.odd(name, &set, plain);
+    }
+    println!("\n| Change of Tasks | Set | bytes written | gate ms | second ms | gate / second |");
+    println!("|---|---|---:|---:|---:|---:|");
+    for size in SIZES {
+        bench.drawers(&format!("plain, {} KB", size / 1000), &whole_set(size, seed));
     }
     println!("\n| 4,096 links | bytes | read ms | show ms | show / read | second ms | show / second |");
     println!("|---|---:|---:|---:|---:|---:|---:|");
