@@ -2,4 +2,5 @@ pub mod Opens
 pub mod Laws
 pub mod Words
 pub mod Spelling
+pub mod Guess
 pub mod FaultKinds

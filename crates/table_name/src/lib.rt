@@ -9,6 +9,7 @@ ghost use lib.Dec.{ltb};
 ghost use Rattle.json_same.specs.Same.{sameAs, sameList};
 ghost use Rattle.parts.specs.Part.{partOf};
 ghost use Rattle.table_rows.specs.Rows.{fieldsFrom};
+ghost use Rattle.table_name.specs.Guess.{graphicWord, ownName, namesApart, quotedEnd, guessEnd};
 ghost use Rattle.table_name.specs.Name.{indexOf, namedAt, nameAt, colonAt, firstIn, nextAfter};
 use json_bytes::Reading;
 use json_bytes::byte_at;
@@ -20,6 +21,7 @@ use json_same::text_is;
 use json_text::TextType;
 use json_text::plain_end;
 use json_text::read_text;
+use json_text::run_end;
 use parts::part;
 use table_rows::name_end;
 use table_rows::name_start;
@@ -180,6 +182,82 @@ pub fn name_at(s: &[u8], at: usize, rows: &[u32], names: &[u8], count: usize) ->
     }
     decoded_name(s, at, rows, names, count)
 }
+
+// ---- A name that is guessed before it is read
+
+// Whether a word is one that stands in a file by its bytes alone: not empty, and no byte of it is an escape's, a
+// quote or part of a longer character.
+fn is_graphic_word(word: &[u8]) -> bool
+    ensures { λ r. ⌜ r ≡ graphicWord (now (word .entry)) ⌝ }
+{
+    if word.len() == 0 {
+        return false;
+    }
+    run_end(word, 0) == word.len()
+}
+
+// Whether field k's name is such a word and no field before it has the same.
+fn own_name(rows: &[u32], names: &[u8], count: usize, k: usize) -> bool
+    ensures { λ r. ⌜ r ≡ ownName (now (rows .entry)) (now (names .entry)) count k ⌝ }
+{
+    let from = name_start(rows, k);
+    let to = name_end(rows, k);
+    let word = part(names, from, to);
+    if is_graphic_word(word) {
+        return word_index(word, rows, names, count) == k;
+    }
+    false
+}
+
+// Whether that holds of each of the table's `count` fields: then a guess that fits names the field guessed.
+pub fn names_apart(rows: &[u32], names: &[u8], count: usize) -> bool
+    ensures { λ r. ⌜ r ≡ namesApart (now (rows .entry)) (now (names .entry)) count ⌝ }
+{
+    let mut k = count;
+    while 0 < k {
+        k -= 1;
+        if !own_name(rows, names, count, k) {
+            return false;
+        }
+    }
+    true
+}
+
+// The place behind a word that stands between two quotes, the first of them at `at`; 0 where it does not stand
+// there. The quotes are cheaper than the bytes and are tested first.
+fn quoted_end(s: &[u8], at: usize, word: &[u8]) -> usize
+    ensures { λ r. ⌜ r ≡ quotedEnd (now (word .entry)) (now (s .entry)) at ⌝ }
+{
+    if s.len() <= at {
+        return 0;
+    }
+    if s.len() - at - 1 <= word.len() {
+        return 0;
+    }
+    if s[at] != b'"' {
+        return 0;
+    }
+    let from = at + 1;
+    let close = from + word.len();
+    if s[close] != b'"' {
+        return 0;
+    }
+    if same_bytes(&s[from..close], word) {
+        return close + 1;
+    }
+    0
+}
+
+// The place behind field k's name, where that stands at `at` between quotes; 0 where it does not.
+pub fn guess_end(s: &[u8], at: usize, rows: &[u32], names: &[u8], k: usize) -> usize
+    ensures { λ r. ⌜ r ≡ guessEnd (now (rows .entry)) (now (names .entry)) (now (s .entry)) at k ⌝ }
+{
+    let from = name_start(rows, k);
+    let to = name_end(rows, k);
+    quoted_end(s, at, part(names, from, to))
+}
+
+// ---- What stands around the values
 
 // The place of the value behind a name that ends at `end`.
 pub fn colon_at(s: &[u8], end: usize) -> Reading
