@@ -72,10 +72,14 @@ module _ (s : List ℕ) (at : ℕ) where
         let p = plain j is h in
         (p .some, inside s j 34 (p .close) (lit< tt))
 
-    pub plain-text : textRead Text s at ≡ record { reading = Whole (j + 1); wrong = record { rule = 0; place = 0 } }
-    plain-text =
+    -- it breaks no rule, whatever its type
+    pub plain-read : (ty : TextType) → textRead ty s at ≡ record { reading = Whole (j + 1); wrong = record { rule = 0; place = 0 } }
+    plain-read ty =
         let p = plain j is h in
-        take-close Text s at (record { rule = 0; place = 0 }) j _ (along-end Text s at (record { rule = 0; place = 0 }) (at + 1) j true (opened Text s at (omega (arith, plain-inside .0, plain-inside .1)) (p .quote)) (p .end)) (closing-step s j (p .close))
+        take-close ty s at (record { rule = 0; place = 0 }) j _ (along-end ty s at (record { rule = 0; place = 0 }) (at + 1) j true (opened ty s at (omega (arith, plain-inside .0, plain-inside .1)) (p .quote)) (p .end)) (closing-step s j (p .close))
+
+    pub plain-text : textRead Text s at ≡ record { reading = Whole (j + 1); wrong = record { rule = 0; place = 0 } }
+    plain-text = plain-read Text
 
     pub plain-chars : charsAt s at ≡ take (j - (at + 1)) (drop (at + 1) s)
     plain-chars =

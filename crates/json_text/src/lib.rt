@@ -186,7 +186,7 @@ fn is_graphic(b: u8) -> bool
 }
 
 // The first place from i on that does not hold such a byte.
-fn run_end(s: &[u8], i: usize) -> usize
+pub fn run_end(s: &[u8], i: usize) -> usize
     ensures { λ r. ⌜ r ≡ runEnd (now (s .entry)) i ⌝ }
 {
     let mut j = i;

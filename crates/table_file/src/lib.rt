@@ -1,10 +1,12 @@
 // A file of a set: its own mark, the number of its records, and where each value of each record
 // stands, found in one pass.
 ghost use mathlib.Core.Path.{_≡_};
+ghost use mathlib.Core.Bool.{true};
 ghost use Prim.Native.Nat.{_≤_, _<_};
 ghost use lib.ListN.{length};
 ghost use Rattle.parts.specs.Files.{newFile};
 ghost use Rattle.table_rows.specs.Rows.{fieldsFrom};
+ghost use Rattle.table_name.specs.Guess.{namesApart};
 ghost use Rattle.table_record.specs.Record.{cellsFilled};
 ghost use Rattle.table_file.specs.Table.{tableRead, endOfFile, singleRead, singleAt, elementAt, elementsFrom, arrayAt, readTable, companionOf};
 ghost use Rattle.table_file.specs.File.{omitted, fixedRead, fileOf, expectedFrom};
@@ -14,6 +16,7 @@ use json_bytes::is_within;
 use json_bytes::skip_spaces;
 use table_name::Next;
 use table_name::first_in;
+use table_name::names_apart;
 use table_name::next_after;
 use table_name::same_bytes;
 use table_record::read_record;
@@ -85,6 +88,8 @@ fn single_of(s: &[u8], reading: Reading) -> FileRead
     }
 }
 
+// A singleton. It is one record, for which it doesn't pay to find out whether the names are told apart
+// by their bytes.
 fn read_single(
     s: &[u8],
     at: usize,
@@ -96,7 +101,7 @@ fn read_single(
     ensures { λ r. ⌜ tableRead (now (cells .exit)) r ≡ singleAt (fieldsFrom (now (rows .entry)) (now (names .entry)) count 0) (now (s .entry)) (now (cells .entry)) at ⌝ }
 {
     if byte_at(s, at) == b'{' {
-        return single_of(s, read_record(s, at, rows, names, count, cells, 0));
+        return single_of(s, read_record(s, at, rows, names, count, false, cells, 0));
     }
     single_of(s, not_object_at(s, at))
 }
@@ -108,9 +113,11 @@ fn element_at(
     rows: &[u32],
     names: &[u8],
     count: usize,
+    apart: bool,
     cells: &mut [u32],
     r: usize,
 ) -> Reading
+    requires { ⌜ (apart ≡ true → namesApart (now rows) (now names) count ≡ true) ⌝ }
     ensures { λ x. ⌜ cellsFilled (now (cells .exit)) x ≡ elementAt (fieldsFrom (now (rows .entry)) (now (names .entry)) count 0) (now (s .entry)) at (now (cells .entry)) r ⌝ }
 {
     if byte_at(s, at) != b'{' {
@@ -130,7 +137,7 @@ fn element_at(
             place: at,
         };
     }
-    read_record(s, at, rows, names, count, cells, r * (2 * count))
+    read_record(s, at, rows, names, count, apart, cells, r * (2 * count))
 }
 
 // The elements from `from` on, up to the closing bracket and the end of the file.
@@ -140,15 +147,17 @@ fn read_elements(
     rows: &[u32],
     names: &[u8],
     count: usize,
+    apart: bool,
     cells: &mut [u32],
 ) -> FileRead
     requires { ⌜ (0 < from) × (from ≤ length (now s)) ⌝ }
+    requires { ⌜ (apart ≡ true → namesApart (now rows) (now names) count ≡ true) ⌝ }
     ensures { λ r. ⌜ tableRead (now (cells .exit)) r ≡ elementsFrom (length (now (s .entry))) (fieldsFrom (now (rows .entry)) (now (names .entry)) count 0) (now (s .entry)) from (now (cells .entry)) 0 ⌝ }
 {
     let mut at = from;
     let mut r = 0;
     loop {
-        match element_at(s, at, rows, names, count, cells, r) {
+        match element_at(s, at, rows, names, count, apart, cells, r) {
             Reading::Whole { end } => match next_after(s, end, b']') {
                 Next::More { at: next } => {
                     at = next;
@@ -178,6 +187,8 @@ fn read_elements(
     }
 }
 
+// A table of records. Whether its names are told apart by their bytes is found out once for all of
+// them, and only where there is one.
 fn read_array(
     s: &[u8],
     at: usize,
@@ -192,7 +203,10 @@ fn read_array(
         return single_of(s, not_object_at(s, at));
     }
     match first_in(s, at, b']') {
-        Next::More { at: first } => read_elements(s, first, rows, names, count, cells),
+        Next::More { at: first } => {
+            let apart = names_apart(rows, names, count);
+            read_elements(s, first, rows, names, count, apart, cells)
+        }
         Next::Ends { at: last } => end_of_file(s, last + 1, 0),
         Next::Neither { at: place } => FileRead {
             kind: 11,

@@ -1,7 +1,7 @@
 -- The fields of a table one behind the other, and the search for the one that a string names.
 -- Assumes nothing.
 use Prim.Native.Nat.{ℕ, suc, _+_, _-_, _≤_, _<_}
-use mathlib.Core.Path.{_≡_, refl, sym, ap, _∙_}
+use mathlib.Core.Path.{_≡_, sym, ap, _∙_}
 use mathlib.Core.Bool.{Bool, true, false}
 use mathlib.Core.List.{List, [], _∷_}
 use native.Mathlib.Nat.{add-zero}
@@ -39,8 +39,9 @@ module _ (rows names : List ℕ) (count k : ℕ) where
   name-told cs word from to t isFrom isTo isWord isSame = sym (isSame ∙ ap (sameAs Kept cs) (isWord ∙ rw (isFrom, isTo)))
 
   -- one that was compared whole
-  pub field-told : (cs : List ℕ) (from to : ℕ) (t : Bool) → from ≡ nameStart rows k → to ≡ nameEnd rows k → t ≡ sameAs Kept cs (partOf names from to) → sameAs Kept cs (fieldAt rows names k .name) ≡ t
-  field-told cs from to t isFrom isTo isSame = name-told cs (partOf names from to) from to t isFrom isTo refl isSame
+  pub field-told : (cs : List ℕ) (t : Bool) → t ≡ sameAs Kept cs (nameText rows names k) → sameAs Kept cs (fieldAt rows names k .name) ≡ t
+  unfolding fieldAt
+  field-told cs t isSame = sym isSame
 
   module _ (cs : List ℕ) where
     pub index-more : k < count → sameAs Kept cs (fieldAt rows names k .name) ≡ false → k + indexOf cs (fieldsFrom rows names (count - k) k) ≡ (k + 1) + indexOf cs (fieldsFrom rows names (count - (k + 1)) (k + 1))

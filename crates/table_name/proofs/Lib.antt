@@ -1,5 +1,7 @@
 pub mod Opens
 pub mod Laws
 pub mod Words
+pub mod Eights
 pub mod Spelling
+pub mod Guess
 pub mod FaultKinds

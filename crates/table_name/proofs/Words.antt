@@ -1,13 +1,13 @@
 -- Two lists of bytes side by side, and a word among the names of a table.
 -- Assumes nothing.
-use Prim.Native.Nat.{ℕ, _+_, _-_, _≤_, _<_}
+use Prim.Native.Nat.{ℕ, _+_, _-_, _*_, _/_, _≤_, _<_}
 use mathlib.Core.Path.{_≡_, refl, sym, ap, _∙_}
 use mathlib.Core.Bool.{Bool, true, false, cond, _&&_}
 use mathlib.Core.List.{List, [], _∷_, map}
 use native.Mathlib.Numerals.{add-one}
 use native.Mathlib.Omega.{arith}
 use borrow.Author.Tests.{eq-eqb, ne-eqb, leb-true}
-use lib.ListN.{length, getD, take, drop, drop-of-length-le, length-drop}
+use lib.ListN.{length, getD, take, drop, drop-of-length-le, length-drop, List·getD-eq-default}
 use lib.Seq.{drop-cons, length-take-le}
 use lib.Dec.{ltb, leb}
 use Rattle.json_bytes.proofs.Laws.{by-test, both-left, both-right}
@@ -23,7 +23,7 @@ use Rattle.json_same.specs.declared.Case.the-variants.{Kept}
 use Rattle.json_same.proofs.Laws.{same-equal}
 use Rattle.parts.specs.Part.{partOf}
 use Rattle.parts.proofs.Laws.{part-is}
-use Rattle.table_rows.specs.Rows.{fieldsFrom}
+use Rattle.table_rows.specs.Rows.{cellAt, fieldNameAt, fieldsFrom}
 use Rattle.table_rows.proofs.Laws.{fields-length}
 use Rattle.table_name.specs.Name.{indexOf, namedAt, nameAt}
 use Rattle.table_name.specs.declared.NameRead.{NameRead}
@@ -63,7 +63,7 @@ same-kept xs ys = rw (kept-all xs, kept-all ys)
 
 -- a word and a part of the names: of another length than its places say, or compared
 module _ (word names : List ℕ) (from to : ℕ) where
-  pub word-apart : 0 < length word → (to - from ≡ length word → ⊥) → sameAs Kept word (partOf names from to) ≡ false
+  word-apart : 0 < length word → (to - from ≡ length word → ⊥) → sameAs Kept word (partOf names from to) ≡ false
   unfolding partOf
   word-apart h n =
       same-kept word (partOf names from to) ∙
@@ -75,8 +75,25 @@ module _ (word names : List ℕ) (from to : ℕ) where
           let m : to ≤ length names = leb-true to (length names) (both-right (leb from to) (leb to (length names)) t) in
           length-take-le (to - from) (drop from names) (rw (length-drop from names) (omega arith))
 
-  pub word-compared : (name : List ℕ) (t : Bool) → name ≡ partOf names from to → t ≡ sameList word name → t ≡ sameAs Kept word (partOf names from to)
+  word-compared : (name : List ℕ) (t : Bool) → name ≡ partOf names from to → t ≡ sameList word name → t ≡ sameAs Kept word (partOf names from to)
   word-compared name t isName isSame = isSame ∙ ap (sameList word) isName ∙ sym (same-kept word (partOf names from to))
+
+-- a word and the name that row k points at
+module _ (word rows names : List ℕ) (k : ℕ) where
+  -- without such a row the name ends where the names begin
+  pub row-none : 0 < length word → length rows / 5 ≤ k → false ≡ sameAs Kept word (fieldNameAt rows names k)
+  unfolding fieldNameAt cellAt
+  row-none h l =
+      let past : getD rows (k * 5 + 4) 0 ≡ 0 = List·getD-eq-default rows 0 (omega arith) in
+      sym (word-apart word names (getD rows (k * 5 + 3) 0) (getD rows (k * 5 + 4) 0) h (λ e. omega (arith, past, e)))
+
+  pub row-apart : 0 < length word → (getD rows (k * 5 + 4) 0 ≡ getD rows (k * 5 + 3) 0 + length word → ⊥) → false ≡ sameAs Kept word (fieldNameAt rows names k)
+  unfolding fieldNameAt cellAt
+  row-apart h n = sym (word-apart word names (getD rows (k * 5 + 3) 0) (getD rows (k * 5 + 4) 0) h (λ e. n (omega (arith, e))))
+
+  pub row-compared : (name : List ℕ) (t : Bool) → name ≡ partOf names (getD rows (k * 5 + 3) 0) (getD rows (k * 5 + 4) 0) → t ≡ sameList word name → t ≡ sameAs Kept word (fieldNameAt rows names k)
+  unfolding fieldNameAt cellAt
+  row-compared = word-compared word names (getD rows (k * 5 + 3) 0) (getD rows (k * 5 + 4) 0)
 
 -- ---- a name that is written in plain bytes, and one that is read
 -- a plain name has a byte

@@ -1,1 +1,3 @@
 pub mod Name
+pub mod Eight
+pub mod Guess

@@ -1,14 +1,15 @@
 // What stands around the values of a table: the name of a field, the colon behind it, and what
 // follows in an object or an array.
 ghost use mathlib.Core.Path.{_≡_};
-ghost use Prim.Native.Nat.{_<_};
+ghost use Prim.Native.Nat.{_+_, _≤_, _<_};
 ghost use lib.ListN.{length};
 ghost use Rattle.json_chars.specs.Chars.{charsAt};
 ghost use mathlib.Core.Bool.{cond};
 ghost use lib.Dec.{ltb};
 ghost use Rattle.json_same.specs.Same.{sameAs, sameList};
-ghost use Rattle.parts.specs.Part.{partOf};
-ghost use Rattle.table_rows.specs.Rows.{fieldsFrom};
+ghost use Rattle.table_rows.specs.Rows.{fieldNameAt, fieldsFrom};
+ghost use Rattle.table_name.specs.Eight.{fourAt, eightAt};
+ghost use Rattle.table_name.specs.Guess.{graphicWord, ownName, namesApart, quotedEnd, guessEnd};
 ghost use Rattle.table_name.specs.Name.{indexOf, namedAt, nameAt, colonAt, firstIn, nextAfter};
 use json_bytes::Reading;
 use json_bytes::byte_at;
@@ -20,6 +21,7 @@ use json_same::text_is;
 use json_text::TextType;
 use json_text::plain_end;
 use json_text::read_text;
+use json_text::run_end;
 use parts::part;
 use table_rows::name_end;
 use table_rows::name_start;
@@ -56,8 +58,10 @@ fn index_of(s: &[u8], at: usize, rows: &[u32], names: &[u8], count: usize) -> us
     k
 }
 
-// Whether two lists of bytes are the same.
-pub fn same_bytes(a: &[u8], b: &[u8]) -> bool
+// ---- Two lists of bytes
+
+// Whether they are the same, byte by byte.
+fn same_each(a: &[u8], b: &[u8]) -> bool
     ensures { λ r. ⌜ r ≡ sameList (now (a .entry)) (now (b .entry)) ⌝ }
 {
     if a.len() != b.len() {
@@ -73,16 +77,71 @@ pub fn same_bytes(a: &[u8], b: &[u8]) -> bool
     true
 }
 
-// Whether a word is the name that stands in the names from one place up to another. Most are told apart by
-// their lengths.
-fn is_word(word: &[u8], names: &[u8], from: usize, to: usize) -> bool
-    requires { ⌜ 0 < length (now word) ⌝ }
-    ensures { λ r. ⌜ r ≡ sameAs Case.Kept (now (word .entry)) (partOf (now (names .entry)) from to) ⌝ }
+fn wide(b: u8) -> u64
+    ensures { λ r. ⌜ (r ≡ b) × (r < 256) ⌝ }
 {
-    if to < from {
+    b as u64
+}
+
+// Four bytes as one number, the first the lowest.
+fn four_at(s: &[u8], i: usize) -> u64
+    requires { ⌜ i + 4 ≤ length (now s) ⌝ }
+    ensures { λ r. ⌜ (r ≡ fourAt (now (s .entry)) i) × (r < 4294967296) ⌝ }
+{
+    wide(s[i]) + wide(s[i + 1]) * 256 + wide(s[i + 2]) * 65536 + wide(s[i + 3]) * 16777216
+}
+
+// Eight of them. Read so, they are one load.
+fn eight_at(s: &[u8], i: usize) -> u64
+    requires { ⌜ i + 8 ≤ length (now s) ⌝ }
+    ensures { λ r. ⌜ r ≡ eightAt (now (s .entry)) i ⌝ }
+{
+    four_at(s, i) + four_at(s, i + 4) * 4294967296
+}
+
+// Whether two lists of one length, eight bytes or more, are the same, eight at a time. The last eight are compared
+// wherever the eights before them end, so that none is left over.
+fn same_eights(a: &[u8], b: &[u8]) -> bool
+    requires { ⌜ (8 ≤ length (now a)) × (length (now a) ≡ length (now b)) ⌝ }
+    ensures { λ r. ⌜ r ≡ sameList (now (a .entry)) (now (b .entry)) ⌝ }
+{
+    let last = a.len() - 8;
+    let mut i = 0;
+    while i < last {
+        if eight_at(a, i) != eight_at(b, i) {
+            return false;
+        }
+        i += 8;
+    }
+    eight_at(a, last) == eight_at(b, last)
+}
+
+// Whether two lists of bytes are the same.
+pub fn same_bytes(a: &[u8], b: &[u8]) -> bool
+    ensures { λ r. ⌜ r ≡ sameList (now (a .entry)) (now (b .entry)) ⌝ }
+{
+    if a.len() < 8 {
+        return same_each(a, b);
+    }
+    if a.len() != b.len() {
         return false;
     }
-    if to - from != word.len() {
+    same_eights(a, b)
+}
+
+// ---- A word among the names
+
+// Whether a word is the name of field k. Most are told apart by their lengths.
+fn is_field(word: &[u8], rows: &[u32], names: &[u8], k: usize) -> bool
+    requires { ⌜ 0 < length (now word) ⌝ }
+    ensures { λ r. ⌜ r ≡ sameAs Case.Kept (now (word .entry)) (fieldNameAt (now (rows .entry)) (now (names .entry)) k) ⌝ }
+{
+    if rows.len() / 5 <= k {
+        return false;
+    }
+    let from = rows[k * 5 + 3] as usize;
+    let to = rows[k * 5 + 4] as usize;
+    if to != from + word.len() {
         return false;
     }
     same_bytes(word, part(names, from, to))
@@ -95,9 +154,7 @@ fn word_index(word: &[u8], rows: &[u32], names: &[u8], count: usize) -> usize
 {
     let mut k = 0;
     while k < count {
-        let from = name_start(rows, k);
-        let to = name_end(rows, k);
-        if is_word(word, names, from, to) {
+        if is_field(word, rows, names, k) {
             return k;
         }
         k += 1;
@@ -180,6 +237,82 @@ pub fn name_at(s: &[u8], at: usize, rows: &[u32], names: &[u8], count: usize) ->
     }
     decoded_name(s, at, rows, names, count)
 }
+
+// ---- A name that is guessed before it is read
+
+// Whether a word is one that stands in a file by its bytes alone: not empty, and no byte of it is an escape's, a
+// quote or part of a longer character.
+fn is_graphic_word(word: &[u8]) -> bool
+    ensures { λ r. ⌜ r ≡ graphicWord (now (word .entry)) ⌝ }
+{
+    if word.len() == 0 {
+        return false;
+    }
+    run_end(word, 0) == word.len()
+}
+
+// Whether field k's name is such a word and no field before it has the same.
+fn own_name(rows: &[u32], names: &[u8], count: usize, k: usize) -> bool
+    ensures { λ r. ⌜ r ≡ ownName (now (rows .entry)) (now (names .entry)) count k ⌝ }
+{
+    let from = name_start(rows, k);
+    let to = name_end(rows, k);
+    let word = part(names, from, to);
+    if is_graphic_word(word) {
+        return word_index(word, rows, names, count) == k;
+    }
+    false
+}
+
+// Whether that holds of each of the table's `count` fields: then a guess that fits names the field guessed.
+pub fn names_apart(rows: &[u32], names: &[u8], count: usize) -> bool
+    ensures { λ r. ⌜ r ≡ namesApart (now (rows .entry)) (now (names .entry)) count ⌝ }
+{
+    let mut k = count;
+    while 0 < k {
+        k -= 1;
+        if !own_name(rows, names, count, k) {
+            return false;
+        }
+    }
+    true
+}
+
+// The place behind a word that stands between two quotes, the first of them at `at`; 0 where it does not stand
+// there. The quotes are cheaper than the bytes and are tested first.
+fn quoted_end(s: &[u8], at: usize, word: &[u8]) -> usize
+    ensures { λ r. ⌜ r ≡ quotedEnd (now (word .entry)) (now (s .entry)) at ⌝ }
+{
+    if s.len() <= at {
+        return 0;
+    }
+    if s.len() - at - 1 <= word.len() {
+        return 0;
+    }
+    if s[at] != b'"' {
+        return 0;
+    }
+    let from = at + 1;
+    let close = from + word.len();
+    if s[close] != b'"' {
+        return 0;
+    }
+    if same_bytes(&s[from..close], word) {
+        return close + 1;
+    }
+    0
+}
+
+// The place behind field k's name, where that stands at `at` between quotes; 0 where it does not.
+pub fn guess_end(s: &[u8], at: usize, rows: &[u32], names: &[u8], k: usize) -> usize
+    ensures { λ r. ⌜ r ≡ guessEnd (now (rows .entry)) (now (names .entry)) (now (s .entry)) at k ⌝ }
+{
+    let from = name_start(rows, k);
+    let to = name_end(rows, k);
+    quoted_end(s, at, part(names, from, to))
+}
+
+// ---- What stands around the values
 
 // The place of the value behind a name that ends at `end`.
 pub fn colon_at(s: &[u8], end: usize) -> Reading

@@ -22,6 +22,8 @@ use Rattle.table_name.specs.declared.NameRead.the-variants.{Known, Unknown}
 use Rattle.table_name.specs.declared.Next.{Next}
 use Rattle.table_name.specs.declared.Next.the-variants.{More, Ends, Neither}
 use Rattle.table_name.proofs.Laws.{fields-next, fields-end}
+use Rattle.table_name.specs.Guess.{namesApart, guessEnd}
+use Rattle.table_name.proofs.Guess.{guess-right, apart-own}
 use Rattle.table_value.specs.Value.{valueAt}
 use Rattle.table_value.specs.declared.ValueRead.{ValueRead}
 use Rattle.table_value.specs.declared.ValueRead.the-variants.{Held, Null, Bad}
@@ -126,6 +128,11 @@ module _ (s : List ℕ) (start ty : ℕ) (v : ValueRead) (isValue : v ≡ valueA
 -- ---- a name and its value
 pub colon-told : (s : List ℕ) (end : ℕ) (r : Reading) → r ≡ colonAt s end → end ≤ length s → Within s end r
 colon-told s end r e l = rw e (colon-in s end l)
+
+-- a guessed field whose name stands there, where the names are apart, is the one that the name is
+pub name-guessed : (rows names s : List ℕ) (count at k end : ℕ) → namesApart rows names count ≡ true → k < count → end ≡ guessEnd rows names s at k → 0 < end → Known k end ≡ nameAt (fieldsFrom rows names count 0) s at
+name-guessed rows names s count at k end apart l e p =
+    rw e (sym (guess-right rows names s count at k l (apart-own rows names count k apart l) (rw e at p)))
 
 module _ (fields : List Field) (s : List ℕ) (at : ℕ) (n : NameRead) (isName : n ≡ nameAt fields s at) where
   pub name-told : at ≤ length s → NameIn fields s at n

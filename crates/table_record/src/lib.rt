@@ -1,9 +1,12 @@
 // A record of a table, read once: the places of its values go into cells that the caller lends, two
 // numbers a field, and the answer is the place behind its closing brace or the record's first fault.
 ghost use mathlib.Core.Path.{_≡_};
+ghost use mathlib.Core.Bool.{true};
 ghost use Prim.Native.Nat.{_+_, _*_, _^_, _≤_, _<_};
 ghost use lib.ListN.{length};
 ghost use Rattle.table_rows.specs.Rows.{fieldsFrom, nullableAt};
+ghost use Rattle.table_name.specs.Name.{nameAt};
+ghost use Rattle.table_name.specs.Guess.{namesApart};
 ghost use Rattle.table_value.specs.Value.{valueAt};
 ghost use Rattle.table_record.specs.Record.{cellsFilled, stored, cleared, storedValue, pairAt, pairsFrom, lacks, isMissing, closedAt, recordHasRoom, recordAt};
 use json_bytes::Reading;
@@ -11,6 +14,7 @@ use table_name::NameRead;
 use table_name::Next;
 use table_name::colon_at;
 use table_name::first_in;
+use table_name::guess_end;
 use table_name::name_at;
 use table_name::next_after;
 use table_rows::field_type;
@@ -46,6 +50,39 @@ fn store_value(s: &[u8], start: usize, ty: u32, cells: &mut [u32], base: usize, 
     }
 }
 
+// A name and its value as read, and the field that most likely stands next: the one behind it in the
+// table's order. Behind a fault nothing is read, and that number says nothing.
+struct Paired {
+    reading: Reading,
+    next: usize,
+}
+
+// The name at `at`: which field it is, or its fault. Records mostly list their fields in the table's
+// order, so one field is tried first by its bytes; where the table's names are told apart so, that one
+// is the answer.
+fn named_at(
+    s: &[u8],
+    at: usize,
+    rows: &[u32],
+    names: &[u8],
+    count: usize,
+    apart: bool,
+    guess: usize,
+) -> NameRead
+    requires { ⌜ (apart ≡ true → namesApart (now rows) (now names) count ≡ true) ⌝ }
+    ensures { λ r. ⌜ r ≡ nameAt (fieldsFrom (now (rows .entry)) (now (names .entry)) count 0) (now (s .entry)) at ⌝ }
+{
+    if apart {
+        if guess < count {
+            let end = guess_end(s, at, rows, names, guess);
+            if 0 < end {
+                return NameRead::Known { index: guess, end };
+            }
+        }
+    }
+    name_at(s, at, rows, names, count)
+}
+
 // The name at `at` and its value. A name that stands a second time in its record is 14.
 fn pair_at(
     s: &[u8],
@@ -53,28 +90,41 @@ fn pair_at(
     rows: &[u32],
     names: &[u8],
     count: usize,
+    apart: bool,
+    guess: usize,
     cells: &mut [u32],
     base: usize,
-) -> Reading
+) -> Paired
     requires { ⌜ (length (now s) < 2 ^ 32) × ((at ≤ length (now s)) × (base + 2 * count ≤ length (now cells))) ⌝ }
-    ensures { λ r. ⌜ cellsFilled (now (cells .exit)) r ≡ pairAt (fieldsFrom (now (rows .entry)) (now (names .entry)) count 0) (now (s .entry)) at (now (cells .entry)) base ⌝ }
+    requires { ⌜ (apart ≡ true → namesApart (now rows) (now names) count ≡ true) ⌝ }
+    ensures { λ r. ⌜ cellsFilled (now (cells .exit)) (r .reading) ≡ pairAt (fieldsFrom (now (rows .entry)) (now (names .entry)) count 0) (now (s .entry)) at (now (cells .entry)) base ⌝ }
 {
-    match name_at(s, at, rows, names, count) {
+    match named_at(s, at, rows, names, count, apart, guess) {
         NameRead::Known { index, end } => {
             if 0 < cells[base + 2 * index] {
-                return Reading::Fault {
-                    kind: 14,
-                    place: at,
+                return Paired {
+                    reading: Reading::Fault {
+                        kind: 14,
+                        place: at,
+                    },
+                    next: 0,
                 };
             }
             match colon_at(s, end) {
-                Reading::Whole { end: start } => {
-                    store_value(s, start, field_type(rows, index), cells, base, index)
-                }
-                Reading::Fault { kind, place } => Reading::Fault { kind, place },
+                Reading::Whole { end: start } => Paired {
+                    reading: store_value(s, start, field_type(rows, index), cells, base, index),
+                    next: index + 1,
+                },
+                Reading::Fault { kind, place } => Paired {
+                    reading: Reading::Fault { kind, place },
+                    next: 0,
+                },
             }
         }
-        NameRead::Unknown { kind, place } => Reading::Fault { kind, place },
+        NameRead::Unknown { kind, place } => Paired {
+            reading: Reading::Fault { kind, place },
+            next: 0,
+        },
     }
 }
 
@@ -132,18 +182,24 @@ fn read_pairs(
     rows: &[u32],
     names: &[u8],
     count: usize,
+    apart: bool,
     cells: &mut [u32],
     base: usize,
 ) -> Reading
     requires { ⌜ (length (now s) < 2 ^ 32) × (((0 < from) × (from ≤ length (now s))) × (base + 2 * count ≤ length (now cells))) ⌝ }
+    requires { ⌜ (apart ≡ true → namesApart (now rows) (now names) count ≡ true) ⌝ }
     ensures { λ r. ⌜ cellsFilled (now (cells .exit)) r ≡ pairsFrom (length (now (s .entry))) (fieldsFrom (now (rows .entry)) (now (names .entry)) count 0) (now (s .entry)) from (now (cells .entry)) base ⌝ }
 {
     let mut at = from;
+    let mut guess = 0;
     loop {
-        match pair_at(s, at, rows, names, count, cells, base) {
+        let pair = pair_at(s, at, rows, names, count, apart, guess, cells, base);
+        let reading = pair.reading;
+        match reading {
             Reading::Whole { end } => match next_after(s, end, b'}') {
                 Next::More { at: next } => {
                     at = next;
+                    guess = pair.next;
                 }
                 Next::Ends { at: last } => {
                     return close_at(last, rows, names, count, cells, base);
@@ -191,16 +247,19 @@ fn has_room(s: &[u8], cells: &[u32], base: usize, count: usize) -> bool
 }
 
 // The record whose opening brace stands at `at`, with the `count` fields that rows and names
-// describe; its cells start at base.
+// describe; its cells start at base. Where `apart` is true the names are told apart by their bytes: a
+// caller finds that out once for all records of a table.
 pub fn read_record(
     s: &[u8],
     at: usize,
     rows: &[u32],
     names: &[u8],
     count: usize,
+    apart: bool,
     cells: &mut [u32],
     base: usize,
 ) -> Reading
+    requires { ⌜ (apart ≡ true → namesApart (now rows) (now names) count ≡ true) ⌝ }
     ensures { λ r. ⌜ r ≡ recordAt (fieldsFrom (now (rows .entry)) (now (names .entry)) count 0) (now (s .entry)) at (now (cells .entry)) base .outcome ⌝ }
     ensures { λ _. ⌜ now (cells .exit) ≡ recordAt (fieldsFrom (now (rows .entry)) (now (names .entry)) count 0) (now (s .entry)) at (now (cells .entry)) base .cells ⌝ }
 {
@@ -212,7 +271,7 @@ pub fn read_record(
     }
     clear(cells, base, 2 * count);
     match first_in(s, at, b'}') {
-        Next::More { at: first } => read_pairs(s, first, rows, names, count, cells, base),
+        Next::More { at: first } => read_pairs(s, first, rows, names, count, apart, cells, base),
         Next::Ends { at: last } => close_at(last, rows, names, count, cells, base),
         Next::Neither { at: place } => Reading::Fault { kind: 11, place },
     }

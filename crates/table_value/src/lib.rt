@@ -20,6 +20,7 @@ use json_number::number_at;
 use json_text::TextRead;
 use json_text::TextType;
 use json_text::Wrong;
+use json_text::plain_end;
 use json_text::read_text;
 use table_rows::BOOLEAN;
 use table_rows::DATE;
@@ -97,10 +98,15 @@ fn string_in(s: &[u8], at: usize, ty: u32, end: usize, wrong: Wrong) -> ValueRea
     }
 }
 
+// Most strings hold only bytes that are characters by themselves and break no rule; they are told first.
 fn string_value(s: &[u8], at: usize, ty: u32) -> ValueRead
     requires { ⌜ at < length (now s) ⌝ }
     ensures { λ r. ⌜ r ≡ stringValue (now (s .entry)) at ty (textRead (textType ty) (now (s .entry)) at) ⌝ }
 {
+    let close = plain_end(s, at);
+    if 0 < close {
+        return string_in(s, at, ty, close + 1, Wrong { rule: 0, place: 0 });
+    }
     let read = read_text(s, at, text_type(ty));
     let reading = read.reading;
     let wrong = read.wrong;

@@ -8,7 +8,7 @@ byte-at-requires : tie.Need-byte-at-requires
 byte-at-requires c κs = search needs
 
 read-record-requires : tie.Need-read-record-requires
-read-record-requires c κs = search needs
+read-record-requires c κs = λ e. cc
 
 single-of-requires : tie.Need-single-of-requires
 single-of-requires c κs = search needs

@@ -1,6 +1,6 @@
 -- `table_name::word_index` meets its contract: what is left of the search at the loop's head answers as the whole does.
 use borrow.Author.Needs.{needs}
-use mathlib.Core.Path.{_≡_, refl, sym, ap, _∙_}
+use mathlib.Core.Path.{_≡_, sym, _∙_}
 use native.Mathlib.Omega.{arith}
 use Prim.Native.Nat.{_+_, _-_, _≤_}
 use native.Mathlib.Nat.{sub-zero, zero-add}
@@ -19,17 +19,11 @@ abbrev μ-loop : tie.MeasureT-loop
 loop-holds : tie.Need-loop-holds Inv-loop μ-loop
 loop-holds c = (omega arith, rw (sub-zero, zero-add))
 
-name-start-requires : tie.Need-name-start-requires Inv-loop μ-loop
-name-start-requires c κs = search needs
-
-name-end-requires : tie.Need-name-end-requires Inv-loop μ-loop
-name-end-requires c κs = search needs
-
-is-word-requires : tie.Need-is-word-requires Inv-loop μ-loop
-is-word-requires c κs = search needs
+is-field-requires : tie.Need-is-field-requires Inv-loop μ-loop
+is-field-requires c κs = search needs
 
 returns : tie.Need-returns Inv-loop μ-loop
-returns c = sym (c .before .before .before .before .before .loop .inv .1 ∙ index-found _ _ _ _ _ (c .before .before .before .before .loop-test .taken) (field-told _ _ 0 _ _ _ _ _ (c .before .before .before .name-start .ensures) (c .before .before .name-end .ensures) (c .before .is-word .ensures) ∙ c .if1 .taken))
+returns c = sym (c .before .before .before .loop .inv .1 ∙ index-found _ _ _ _ _ (c .before .before .loop-test .taken) (field-told _ _ 0 _ _ _ (c .before .is-field .ensures) ∙ c .if1 .taken))
 
 add-k : tie.Need-add-k Inv-loop μ-loop
 add-k c = omega arith
@@ -38,7 +32,7 @@ loop-less : tie.Need-loop-less Inv-loop μ-loop
 loop-less c = omega arith
 
 loop-again : tie.Need-loop-again Inv-loop μ-loop
-loop-again c = (omega arith, c .before .before .before .before .before .loop .inv .1 ∙ index-more _ _ _ _ _ (c .before .before .before .before .loop-test .taken) (field-told _ _ 0 _ _ _ _ _ (c .before .before .before .name-start .ensures) (c .before .before .name-end .ensures) (c .before .is-word .ensures) ∙ c .if1 .left))
+loop-again c = (omega arith, c .before .before .before .loop .inv .1 ∙ index-more _ _ _ _ _ (c .before .before .loop-test .taken) (field-told _ _ 0 _ _ _ (c .before .is-field .ensures) ∙ c .if1 .left))
 
 returns-2 : tie.Need-returns-2 Inv-loop μ-loop
 returns-2 c = sym (c .before .loop .inv .1 ∙ index-none _ _ _ _ _ (c .loop-test .left))
@@ -50,9 +44,7 @@ word-index-spec =
     Inv-loop
     μ-loop
     loop-holds
-    name-start-requires
-    name-end-requires
-    is-word-requires
+    is-field-requires
     returns
     add-k
     loop-less

@@ -38,7 +38,7 @@ enum-known-first c = search needs
 read-pairs-requires : tie.Need-read-pairs-requires
 read-pairs-requires c κs =
     let b = c .before .before .before .before in
-    omega (arith, room (b .before .before .before .before .before), b .before .before .before .clear .kept .0, first-more _ _ _ (b .first-in .ensures) _ (c .before .before .first .given .1))
+    (omega (arith, room (b .before .before .before .before .before), b .before .before .before .clear .kept .0, first-more _ _ _ (b .first-in .ensures) _ (c .before .before .first .given .1)), b .before .before .before .before .before .before .before .before .before .before .before .before .pre)
 
 enum-known-last : tie.Need-enum-known-last
 enum-known-last c = search needs
@@ -52,7 +52,7 @@ enum-known-place : tie.Need-enum-known-place
 enum-known-place c = search needs
 
 same-length-2 : tie.Need-same-length-2
-same-length-2 c = c .before .before .read-pairs .kept .1 .1 .1 .1 .1 .0 ∙ c .before .before .before .before .before .before .before .before .before .before .clear .kept .0
+same-length-2 c = c .before .before .read-pairs .kept .1 .1 .1 .1 .1 .1 .0 ∙ c .before .before .before .before .before .before .before .before .before .before .clear .kept .0
 
 returns-2 : tie.Need-returns-2
 returns-2 c =

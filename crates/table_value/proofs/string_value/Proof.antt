@@ -1,11 +1,26 @@
--- `table_value::string_value` meets its contract: the tests that led to each answer decide the definition.
+-- `table_value::string_value` meets its contract: a plain string is read whole and breaks no rule; for any other the tests
+-- that led to each answer decide the definition.
 use borrow.Author.Needs.{needs}
 use mathlib.Core.Path.{_≡_, refl, sym, ap, _∙_}
-use borrow.Author.Tests.{eq-eqb, ne-eqb, lt-ltb, le-ltb, le-leb, lt-leb}
-use Rattle.table_value.specs.Value.{stringValue}
+use native.Mathlib.Omega.{arith}
+use Rattle.json_text.proofs.Plain.{plain-inside, plain-read}
+use Rattle.table_value.specs.Value.{textType, stringValue}
 use Rattle.table_value.proofs.Bounds.{rule-of}
 use Rattle.table_value.proofs.string_value.Statement.{statement}
 use Rattle.table_value.proofs.string_value.Tie as tie
+
+plain-end-requires : tie.Need-plain-end-requires
+plain-end-requires c κs = search needs
+
+add-string-in : tie.Need-add-string-in
+add-string-in c = omega (arith, plain-inside _ _ _ (c .before .plain-end .ensures) (c .if1 .taken) .1)
+
+string-in-requires : tie.Need-string-in-requires
+string-in-requires c κs = search needs
+
+returns : tie.Need-returns
+unfolding stringValue
+returns c = rw (plain-read _ _ _ (c .before .before .plain-end .ensures) (c .before .if1 .taken) (textType _)) (c .string-in .ensures)
 
 text-type-requires : tie.Need-text-type-requires
 text-type-requires c κs = search needs
@@ -16,28 +31,32 @@ read-text-requires c κs = search needs
 enum-known-reading : tie.Need-enum-known-reading
 enum-known-reading c = search needs
 
-string-in-requires : tie.Need-string-in-requires
-string-in-requires c κs = search (needs, rule-of _ _ _ _ (c .before .before .before .before .read-text .ensures))
+string-in-requires-2 : tie.Need-string-in-requires-2
+string-in-requires-2 c κs = search (needs, rule-of _ _ _ _ (c .before .before .before .before .read-text .ensures))
 
 enum-known-reading-2 : tie.Need-enum-known-reading-2
 enum-known-reading-2 c = search needs
 
-returns : tie.Need-returns
-unfolding stringValue
-returns c = rw (← (c .before .before .before .before .before .before .text-type .ensures), ← (c .before .before .before .before .before .read-text .ensures), c .before .before .reading .given .1) (c .string-in .ensures)
-
 returns-2 : tie.Need-returns-2
 unfolding stringValue
-returns-2 c = rw (← (c .before .before .before .before .before .text-type .ensures), ← (c .before .before .before .before .read-text .ensures), c .before .reading2 .given .1)
+returns-2 c = rw (← (c .before .before .before .before .before .before .text-type .ensures), ← (c .before .before .before .before .before .read-text .ensures), c .before .before .reading .given .1) (c .string-in2 .ensures)
+
+returns-3 : tie.Need-returns-3
+unfolding stringValue
+returns-3 c = rw (← (c .before .before .before .before .before .text-type .ensures), ← (c .before .before .before .before .read-text .ensures), c .before .reading2 .given .1)
 
 pub string-value-spec : {M : Type 1} → statement M
 string-value-spec =
     tie.close
     (tie.spec
+    plain-end-requires
+    add-string-in
+    string-in-requires
+    returns
     text-type-requires
     read-text-requires
     enum-known-reading
-    string-in-requires
+    string-in-requires-2
     enum-known-reading-2
-    returns
-    returns-2)
+    returns-2
+    returns-3)
