@@ -2,7 +2,7 @@
 -- Assumes nothing.
 use Prim.Native.Nat.{ℕ, zero, suc, _+_, _-_, _≤_, _<_}
 use mathlib.Core.Path.{_≡_, refl, sym, ap, _∙_}
-use mathlib.Core.Bool.{Bool, true, false, _&&_}
+use mathlib.Core.Bool.{Bool, true, false, _&&_, false≢true}
 use mathlib.Core.List.{List, [], _∷_}
 use mathlib.Core.Logic.{_⊎_, inl, inr, ⊎-elim}
 use native.Mathlib.Nat.{add-zero}
@@ -10,9 +10,9 @@ use native.Mathlib.Omega.{arith}
 use borrow.Author.Tests.{eqb-true, ne-eqb}
 use lib.ListN.{length, getD, take, drop}
 use lib.Seq.{drop-cons}
-use lib.Dec.{eqb}
+use lib.Dec.{eqb, lit<}
 use Rattle.json_bytes.specs.Reads.{byteAt}
-use Rattle.json_bytes.proofs.Laws.{both-left, both-right}
+use Rattle.json_bytes.proofs.Laws.{inside, both-left, both-right}
 use Rattle.json_chars.specs.Step.{stepAt}
 use Rattle.json_chars.specs.Chars.{charsAt}
 use Rattle.json_chars.specs.declared.Step.the-variants.{Char}
@@ -21,6 +21,7 @@ use Rattle.json_chars.proofs.Plain.{Own, chars-plain}
 use Rattle.json_date.specs.declared.Date.{Date}
 use Rattle.json_date.specs.declared.Date.the-variants.{Day, NoDate}
 use Rattle.json_date.specs.Date.{hasForm, dateOf}
+use Rattle.json_date.specs.Plain.{isTold, isPlainDate}
 use Rattle.json_date.proofs.Laws.{Digit, first-digit, second-digit, Form, form, no-form}
 
 -- ---- the bytes from a place on, one by one
@@ -46,7 +47,7 @@ byte-of s (suc n) i (suc m) l h =
     rw (drop-cons s i 0 (omega arith)) (byte-of s n (suc i) m (omega arith) (omega arith) ∙ ap (byteAt s) (omega arith))
 
 -- ---- each of ten that have the form is a digit or a dash
-record Graphic (c : ℕ) : Type 0 where
+pub record Graphic (c : ℕ) : Type 0 where
   pub from : 45 ≤ c
   pub to : c ≤ 57
 
@@ -82,22 +83,23 @@ graphic-step : (s : List ℕ) (k : ℕ) → Graphic (byteAt s k) → stepAt s k 
 graphic-step s k g =
     own-step s k (omega (arith, g .from)) (omega (arith, g .to)) (ne-eqb (byteAt s k) 34 (λ q. omega (arith, g .from))) (ne-eqb (byteAt s k) 92 (λ q. omega (arith, g .to)))
 
--- ---- the date of ten bytes between two quotes: none, or that of the string
-pub plain-or-none : (s : List ℕ) (at : ℕ) → byteAt s at ≡ 34 → at + 11 < length s → byteAt s (at + 11) ≡ 34 → (ten : List ℕ) → ten ≡ take 10 (drop (at + 1) s) → (r : Date) → r ≡ dateOf ten → (r ≡ NoDate) ⊎ (r ≡ dateOf (charsAt s at))
-plain-or-none s at quote l close ten isTen r isDate = go (hasForm ten) refl
-  where
-    go : (t : Bool) → hasForm ten ≡ t → (r ≡ NoDate) ⊎ (r ≡ dateOf (charsAt s at))
-    go false e = inl (isDate ∙ no-form ten e)
-    go true e =
-        let own : Own s (at + 1) (at + 11) = λ k a b. graphic-step s k (own-byte e k a b) in
-        let chars = chars-plain s at (at + 11) quote (omega arith) own close in
-        let ten-long : (at + 11) - (at + 1) ≡ 10 = omega arith in
-        inr (isDate ∙ ap dateOf (isTen ∙ sym (rw ten-long at chars)))
-      where
-        own-byte : hasForm ten ≡ true → (k : ℕ) → at + 1 ≤ k → k < at + 11 → Graphic (byteAt s k)
-        own-byte e k a b =
-            let place : (at + 1) + (k - (at + 1)) ≡ k = omega arith in
-            rw (ap (λ (cs : List ℕ). getD cs (k - (at + 1)) 0) isTen ∙ byte-of s 10 (at + 1) (k - (at + 1)) (omega arith) (omega arith) ∙ ap (byteAt s) place) at (graphic ten e (k - (at + 1)) (omega arith))
+module _ (s : List ℕ) (at : ℕ) (l : at + 11 < length s) (ten : List ℕ) (isTen : ten ≡ take 10 (drop (at + 1) s)) where
+  form-byte : hasForm ten ≡ true → (k : ℕ) → at + 1 ≤ k → k < at + 11 → Graphic (byteAt s k)
+  form-byte e k a b =
+      let place : (at + 1) + (k - (at + 1)) ≡ k = omega arith in
+      rw (ap (λ (cs : List ℕ). getD cs (k - (at + 1)) 0) isTen ∙ byte-of s 10 (at + 1) (k - (at + 1)) (omega arith) (omega arith) ∙ ap (byteAt s) place) at (graphic ten e (k - (at + 1)) (omega arith))
+
+  -- ---- the date of ten bytes between two quotes: none, or that of the string
+  pub plain-or-none : byteAt s at ≡ 34 → byteAt s (at + 11) ≡ 34 → (r : Date) → r ≡ dateOf ten → (r ≡ NoDate) ⊎ (r ≡ dateOf (charsAt s at))
+  plain-or-none quote close r isDate = go (hasForm ten) refl
+    where
+      go : (t : Bool) → hasForm ten ≡ t → (r ≡ NoDate) ⊎ (r ≡ dateOf (charsAt s at))
+      go false e = inl (isDate ∙ no-form ten e)
+      go true e =
+          let own : Own s (at + 1) (at + 11) = λ k a b. graphic-step s k (form-byte e k a b) in
+          let chars = chars-plain s at (at + 11) quote (omega arith) own close in
+          let ten-long : (at + 11) - (at + 1) ≡ 10 = omega arith in
+          inr (isDate ∙ ap dateOf (isTen ∙ sym (rw ten-long at chars)))
 
 -- a day is no 'none'
 pub plain-day : (r d : Date) (y m n : ℕ) → (r ≡ NoDate) ⊎ (r ≡ d) → r ≡ Day y m n → Day y m n ≡ d
@@ -105,3 +107,39 @@ plain-day r d y m n e is = ⊎-elim (λ q. absurd (differ (sym is ∙ q))) (λ q
   where
     differ : Day y m n ≡ NoDate → ⊥
     differ q = let z : _≡_ {A = ℕ} 0 1 = cc in omega arith
+
+-- ---- a date as it stands between two quotes: its bytes, and that the string is a date
+told-form : (cs : List ℕ) → isTold (dateOf cs) ≡ true → hasForm cs ≡ true
+unfolding isTold
+told-form cs t = go (hasForm cs) refl
+  where
+    go : (f : Bool) → hasForm cs ≡ f → hasForm cs ≡ true
+    go true e = e
+    go false e = absurd (false≢true (rw (no-form cs e) at t))
+
+told-whole : (r d : Date) → (r ≡ NoDate) ⊎ (r ≡ d) → isTold r ≡ true → isTold d ≡ true
+unfolding isTold
+told-whole r d e t = ⊎-elim (λ q. absurd (false≢true (rw q at t))) (λ q. rw q at t) e
+
+pub record PlainDate (s : List ℕ) (at : ℕ) : Type 0 where
+  pub quote : byteAt s at ≡ 34
+  pub close : byteAt s (at + 11) ≡ 34
+  pub within : at + 11 < length s
+  pub bytes : (k : ℕ) → at + 1 ≤ k → k < at + 11 → Graphic (byteAt s k)
+  pub told : isTold (dateOf (charsAt s at)) ≡ true
+
+pub plain-date : (s : List ℕ) (at : ℕ) → isPlainDate s at ≡ true → PlainDate s at
+unfolding isPlainDate
+plain-date s at e =
+    let behind : (eqb (byteAt s (at + 11)) 34 && isTold (dateOf (take 10 (drop (at + 1) s)))) ≡ true = both-right (eqb (byteAt s at) 34) _ e in
+    let q = eqb-true (byteAt s at) 34 (both-left (eqb (byteAt s at) 34) _ e) in
+    let c = eqb-true (byteAt s (at + 11)) 34 (both-left (eqb (byteAt s (at + 11)) 34) _ behind) in
+    let t : isTold (dateOf (take 10 (drop (at + 1) s))) ≡ true = both-right (eqb (byteAt s (at + 11)) 34) _ behind in
+    let l = inside s (at + 11) 34 c (lit< tt) in
+    record {
+      quote = q;
+      close = c;
+      within = l;
+      bytes = form-byte s at l _ refl (told-form _ t);
+      told = told-whole _ _ (plain-or-none s at l _ refl q c _ refl) t;
+    }

@@ -1,1 +1,2 @@
 pub mod Date
+pub mod Plain

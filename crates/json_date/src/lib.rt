@@ -8,6 +8,7 @@ ghost use lib.ListN.{length, take, drop};
 ghost use Rattle.json_bytes.specs.Reads.{byteAt};
 ghost use Rattle.json_chars.specs.Chars.{charsAt};
 ghost use Rattle.json_date.specs.Date.{isLeap, monthDays, isDay, allDigitsAt, twoAt, hasForm, dateOf};
+ghost use Rattle.json_date.specs.Plain.{isTold, isPlainDate};
 use json_bytes::byte_at;
 use json_bytes::is_within;
 use json_chars::Step;
@@ -158,6 +159,33 @@ fn plain_date(s: &[u8], at: usize) -> Date
         return Date::NoDate;
     }
     date_of(&ten_at(s, at + 1))
+}
+
+fn is_told(date: Date) -> bool
+    ensures { λ r. ⌜ r ≡ isTold date ⌝ }
+{
+    match date {
+        Date::Day {
+            year: _,
+            month: _,
+            day: _,
+        } => true,
+        Date::NoDate => false,
+    }
+}
+
+// Whether a quote, ten bytes that are a date as they stand, and a quote begin at a place: then they are a
+// whole string, and its date is told without reading it.
+pub fn is_plain_date(s: &[u8], at: usize) -> bool
+    ensures { λ r. ⌜ r ≡ isPlainDate (now (s .entry)) at ⌝ }
+{
+    if byte_at(s, at) != 34 {
+        return false;
+    }
+    if byte_at(s, at + 11) == 34 {
+        return is_told(date_of(&ten_at(s, at + 1)));
+    }
+    false
 }
 
 // The date of a string, character by character.

@@ -1,3 +1,4 @@
 pub mod Opens
 pub mod Bounds
 pub mod FaultKinds
+pub mod Plain

@@ -1,10 +1,14 @@
 // A value in a field of a type: where it ends and whether it is null, or the kind and place of its
 // fault.
 ghost use mathlib.Core.Path.{_≡_};
+ghost use mathlib.Core.Bool.{_&&_};
 ghost use Prim.Native.Nat.{_≤_, _<_, _^_};
 ghost use lib.ListN.{length};
+ghost use lib.Dec.{eqb};
 ghost use Rattle.json_bytes.specs.Reads.{literalAt};
 ghost use Rattle.json_text.specs.Text.{textRead};
+ghost use Rattle.json_date.specs.Plain.{isPlainDate};
+ghost use Rattle.table_rows.specs.Types.{date};
 ghost use Rattle.table_value.specs.Value.{textType, textHeld, dateHeld, stringIn, stringValue, decimalHeld, integerHeld, numberIn, numberValue, literalIn, literalValue, startsNumber, opens, valueAt, tokenAt, notObjectAt};
 use json_bytes::Reading;
 use json_bytes::byte_at;
@@ -12,6 +16,7 @@ use json_bytes::is_within;
 use json_bytes::literal_at;
 use json_date::Date;
 use json_date::date_at;
+use json_date::is_plain_date;
 use json_number::Integer;
 use json_number::Number;
 use json_number::Value;
@@ -98,11 +103,25 @@ fn string_in(s: &[u8], at: usize, ty: u32, end: usize, wrong: Wrong) -> ValueRea
     }
 }
 
-// Most strings hold only bytes that are characters by themselves and break no rule; they are told first.
+// Whether a field of type Date holds a date as it stands.
+fn is_date_there(s: &[u8], at: usize, ty: u32) -> bool
+    ensures { λ r. ⌜ r ≡ (eqb ty date && isPlainDate (now (s .entry)) at) ⌝ }
+{
+    if ty == DATE {
+        return is_plain_date(s, at);
+    }
+    false
+}
+
+// Most dates are told by their twelve bytes, and most other strings hold only bytes that are characters
+// by themselves and break no rule: neither needs its characters read one by one.
 fn string_value(s: &[u8], at: usize, ty: u32) -> ValueRead
     requires { ⌜ at < length (now s) ⌝ }
     ensures { λ r. ⌜ r ≡ stringValue (now (s .entry)) at ty (textRead (textType ty) (now (s .entry)) at) ⌝ }
 {
+    if is_date_there(s, at, ty) {
+        return ValueRead::Held { end: at + 12 };
+    }
     let close = plain_end(s, at);
     if 0 < close {
         return string_in(s, at, ty, close + 1, Wrong { rule: 0, place: 0 });

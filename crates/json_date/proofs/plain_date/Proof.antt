@@ -32,7 +32,9 @@ date-of-requires : tie.Need-date-of-requires
 date-of-requires c κs = search needs
 
 returns-2 : tie.Need-returns-2
-returns-2 c = plain-or-none _ _ (c .before .before .before .before .before .before .pre) (inside (now (c .before .before .before .before .before .before .args .s)) _ 34 (sym (c .before .before .before .before .byte-at .ensures) ∙ c .before .before .before .if1 .left) (lit< tt)) (sym (c .before .before .before .before .byte-at .ensures) ∙ c .before .before .before .if1 .left) _ (c .before .before .ten-at .ensures) _ (c .date-of .ensures)
+returns-2 c =
+    let close = sym (c .before .before .before .before .byte-at .ensures) ∙ c .before .before .before .if1 .left in
+    plain-or-none _ _ (inside (now (c .before .before .before .before .before .before .args .s)) _ 34 close (lit< tt)) _ (c .before .before .ten-at .ensures) (c .before .before .before .before .before .before .pre) close _ (c .date-of .ensures)
 
 pub plain-date-spec : {M : Type 1} → statement M
 plain-date-spec = tie.close (tie.spec add-byte-at byte-at-requires returns add-ten-at ten-at-requires slice-aggregate-date-of date-of-requires returns-2)
