@@ -14,6 +14,7 @@ pub(super) fn add(cases: &mut Cases) {
         add_twice(cases, field);
     }
     for table in tables() {
+        add_in_order(cases, table);
         add_names_of_other_tables(cases, table);
         add_odd_names(cases, table);
         add_joined_names(cases, table);
@@ -182,6 +183,42 @@ fn add_cut_after_second_name(cases: &mut Cases, table: usize, draft: &Draft, nam
         cases.file(table, &joined(&[&front, more]));
     }
     cases.file(table, &front[..front.len() - 1]);
+}
+
+// --------------------------------------------------------------- in order
+
+/// Every field in the table's order, as most files have them, and then one name
+/// wrong in one letter, or without its closing quote, or the file's end in it;
+/// one field left out; two exchanged; all in reverse.
+fn add_in_order(cases: &mut Cases, table: usize) {
+    let full = Draft::full(table, 0);
+    for (place, member) in full.members.iter().enumerate() {
+        for at in 1..member.name.len() - 1 {
+            let mut name = member.name.clone();
+            name[at] ^= 1;
+            cases.somewhere(table, &full.with_name(place, &name));
+        }
+        let open = &member.name[..member.name.len() - 1];
+        for end in [&b"\\\""[..], b"x\"", b"\\", b" \"", b"'", b""] {
+            cases.record(table, &full.with_name(place, &joined(&[open, end])));
+        }
+        let mut front = full.clone();
+        front.members.truncate(place);
+        let comma: &[u8] = if place == 0 { b"" } else { b"," };
+        for length in 1..=member.name.len() {
+            let name = &member.name[..length];
+            cases.file(table, &joined(&[&unclosed(table, &front), comma, name]));
+        }
+        let mut shorter = full.clone();
+        shorter.members.remove(place);
+        cases.somewhere(table, &shorter);
+        let mut exchanged = full.clone();
+        exchanged.members.swap(place, (place + 1) % full.members.len());
+        cases.somewhere(table, &exchanged);
+    }
+    let mut reversed = full;
+    reversed.members.reverse();
+    cases.somewhere(table, &reversed);
 }
 
 // ------------------------------------------------------------ other names
