@@ -69,7 +69,8 @@ fn reading_5_the_program_prints_a_line() {
     let ring = printed(&bundle_of(&[("A", "B"), ("B", "C"), ("C", "A")]));
     assert!(["1 2 3\n", "2 3 1\n", "3 1 2\n"].contains(&&ring[..]));
     let explained = loop_text(&bundle_of(&[("b", "c"), ("a\\/", "A/")]), true);
-    let line = r#"TaskRelationships record 2: SuccessorTaskID "A/" waits for PredecessorTaskID "a\/""#;
+    let line =
+        r#"TaskRelationships record 2: SuccessorTaskID "A/" waits for PredecessorTaskID "a\/""#;
     let end = " and leads back to record 2. Take a link of the loop out.\n";
     assert_eq!(explained, format!("2\n{line}{end}"));
     assert_eq!(loop_text(&bundle_of(&[("A", "B")]), true), "none\n");

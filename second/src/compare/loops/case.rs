@@ -7,8 +7,8 @@ use std::sync::Arc;
 use super::sights::{self, Sight};
 use crate::compare::gate::case::{Bytes, LONGEST};
 use crate::compare::run::{hex, Question};
-use crate::compare::wire::{read_first_word, read_slice_within, read_word, unsound, write_words};
 use crate::compare::sentences::case::first_difference;
+use crate::compare::wire::{read_first_word, read_slice_within, read_word, unsound, write_words};
 use crate::loops::{is_loop, links_of, ring_text, show_loop, shown_text, Shown};
 
 /// No list is longer.
@@ -44,11 +44,7 @@ pub struct LoopsCase {
 #[derive(Clone, Debug, PartialEq, Eq)]
 pub enum Answer {
     /// A tag; the ring's length or the refusal, else 0; and the whole list.
-    List {
-        tag: u32,
-        number: u32,
-        list: Vec<u32>,
-    },
+    List { tag: u32, number: u32, list: Vec<u32> },
     /// Bytes, since those of another program need not be UTF-8.
     Text(Vec<u8>),
 }
