@@ -1,3 +1,4 @@
 pub mod Least
 pub mod Neighbours
 pub mod Rule
+pub mod Ascending

@@ -1,1 +1,2 @@
 pub mod Repeat
+pub mod Ascending

@@ -1,16 +1,20 @@
 // The rule "primary key" judged through an order of the records: equal keys stand beside each other in
-// it, so that each record is compared with one other.
+// it, so that each record is compared with one other. Records whose keys ascend are in order already.
 ghost use mathlib.Core.Path.{_≡_};
 ghost use Prim.Native.Nat.{_+_, _<_};
 ghost use Rattle.rule_cells.specs.Cells.{table};
 ghost use Rattle.rule_key.specs.Key.{sameKey, keyRule};
+ghost use Rattle.key_order.specs.Order.{keyOrder};
 ghost use Rattle.ordered_key.specs.Repeat.{lesser, repeatOf, leastRepeat, breakAt};
+ghost use Rattle.ordered_key.specs.Ascending.{ascending};
+use key_order::compare_keys;
 use key_order::key_order;
 use rule_key::Key;
 use rule_key::KeyBreak;
 use rule_key::earliest_same;
 use rule_key::key_rule;
 use rule_key::same_key;
+use text_order::Compared;
 
 // The lesser of two records, both counted from 1; 0 stands for none.
 fn lesser(a: usize, b: usize) -> usize
@@ -69,8 +73,30 @@ fn order_break(s: &[u8], cells: &[u32], width: usize, key: Key, order: &[u32]) -
     }
 }
 
+// Whether each record's key is less than the next one's.
+fn is_ascending(s: &[u8], cells: &[u32], width: usize, records: usize, key: Key) -> bool
+    ensures { λ r. ⌜ r ≡ ascending (keyOrder (table (now (s .entry)) (now (cells .entry)) width 0) key) records ⌝ }
+{
+    let mut i = 0;
+    while i + 1 < records {
+        match compare_keys(s, cells, width, key, i, i + 1) {
+            Compared::Less => {
+                i += 1;
+            }
+            Compared::Same => {
+                return false;
+            }
+            Compared::More => {
+                return false;
+            }
+        }
+    }
+    true
+}
+
 // The first record whose key equals an earlier one's, through an order of the records in the lent
-// lists. Where they are not as long as there are records, or the key's first field is no ID, every
+// lists. Many tables come with their keys ascending: then no key is there twice, and nothing is put in
+// order. Where the lists are not as long as there are records, or the key's first field is no ID, every
 // record is compared with every other.
 pub fn key_rule_in(
     s: &[u8],
@@ -84,6 +110,9 @@ pub fn key_rule_in(
 ) -> KeyBreak
     ensures { λ r. ⌜ r ≡ keyRule (table (now (s .entry)) (now (cells .entry)) width records) key ⌝ }
 {
+    if is_ascending(s, cells, width, records, key) {
+        return KeyBreak { record: 0, same: 0 };
+    }
     if key.a_kind != 1 {
         return key_rule(s, cells, width, records, key);
     }
