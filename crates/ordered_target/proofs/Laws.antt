@@ -1,17 +1,18 @@
 -- A record breaks a target rule exactly if its value isn't found in the order of keys, and not where one record is seen to have it.
 -- Assumes nothing.
-use Prim.Native.Nat.{ℕ, zero, suc, _<_}
+use Prim.Native.Nat.{ℕ, zero, suc, _*_, _-_, _≤_, _<_}
 use mathlib.Core.Path.{_≡_, refl, sym, ap, _∙_, fun-ext}
-use mathlib.Core.Bool.{Bool, true, false, not, _&&_}
+use mathlib.Core.Bool.{Bool, true, false, not, cond, _&&_}
 use mathlib.Core.List.{List}
 use native.Mathlib.Omega.{arith}
 use borrow.Author.Tests.{lt-ltb, ne-eqb}
-use lib.ListN.{length}
-use lib.Dec.{ltb, eqb}
+use lib.ListN.{length, take, drop, length-drop, drop-of-length-le}
+use lib.Seq.{take-all}
+use lib.Dec.{ltb, leb, eqb}
 use Rattle.json_chars.specs.Chars.{charsAt}
 use Rattle.json_same.specs.Same.{sameAs}
 use Rattle.json_same.specs.declared.Case.the-variants.{Folded}
-use Rattle.rule_cells.specs.Cells.{Table, table, startOf, textOf, isGiven, firstThat}
+use Rattle.rule_cells.specs.Cells.{Table, table, cellOf, startOf, textOf, isGiven, firstThat}
 use Rattle.rule_when.specs.When.{holdsWhen}
 use Rattle.rule_when.specs.declared.When.{When}
 use Rattle.rule_target.specs.Target.{targetOf, breaksTarget, targetRule}
@@ -51,6 +52,19 @@ looked-up s cells width n m text sums order x e f g = rw (g, e, f) (not-found s 
 pub filled : (u : Table) (n m : ℕ) (l : Lookup) (key : Key) (sums order scratch sums′ order′ : List ℕ) → l ≡ oneText m → key ≡ keyOf l → length order ≡ n → areFit sums order scratch ≡ true → sums′ ≡ sumsAfter u key sums order scratch → order′ ≡ orderAfter u key sums order scratch → (sums′ ≡ sumsOf u m n) × (order′ ≡ inKeyOrder u (keyOf (oneText m)) n)
 filled u n m l key sums order scratch sums′ order′ a b h fit e f =
     (e ∙ fit-sums sums order scratch u key fit ∙ rw (b, a, h), f ∙ fit-order sums order scratch u key fit ∙ rw (b, a, h))
+
+-- ends are read as starts are, from the cells behind the first; of no cells they are 0
+module _ (cells : List ℕ) (width r k : ℕ) where
+  pub end-behind : (x : ℕ) → x ≡ startOf (take (length cells - 1) (drop 1 cells)) width r k → x ≡ startOf (drop 1 cells) width r k
+  end-behind x e = e ∙ ap (λ (l : List ℕ). startOf l width r k) (take-all (length cells - 1) (drop 1 cells) (omega (arith, length-drop 1 cells)))
+
+  pub no-end : length cells ≤ 0 → startOf (drop 1 cells) width r k ≡ 0
+  unfolding startOf cellOf
+  no-end h = rw (drop-of-length-le cells {i = 1} (omega arith)) (go (leb r 4096 && (leb width 128 && leb (2 * k) 128)))
+    where
+      go : (b : Bool) → _≡_ {A = ℕ} (cond b 0 0) 0
+      go true = refl
+      go false = refl
 
 -- a record that is seen to have the text is a target
 pub seen : (text u cells : List ℕ) (width n m q start : ℕ) → q < n → start ≡ startOf cells width q m → sameAs Folded text (charsAt u start) ≡ true → eqb (targetOf text (table u cells width n) m) 0 ≡ false

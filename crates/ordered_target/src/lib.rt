@@ -2,19 +2,21 @@
 // other, so the record behind the target found last is tried first, and then that one again. Only where
 // neither is it, the target records are put in order, and the value is looked up.
 ghost use mathlib.Core.Path.{_≡_};
-ghost use mathlib.Core.Bool.{true, false, not, _&&_};
+ghost use mathlib.Core.Bool.{true, false, not, cond, _&&_};
 ghost use Prim.Native.Nat.{_-_, _≤_};
-ghost use lib.ListN.{length};
-ghost use lib.Dec.{eqb};
+ghost use lib.ListN.{length, drop};
+ghost use lib.Dec.{ltb, eqb};
+ghost use Rattle.json_bytes.specs.Reads.{byteAt};
 ghost use Rattle.json_chars.specs.Chars.{charsAt};
 ghost use Rattle.json_same.specs.Same.{sameAs};
 ghost use Rattle.json_same.specs.declared.Case.the-variants.{Folded};
-ghost use Rattle.rule_cells.specs.Cells.{table, textOf, isGiven, firstFrom, firstThat};
+ghost use Rattle.rule_cells.specs.Cells.{table, startOf, textOf, isGiven, firstFrom, firstThat};
 ghost use Rattle.rule_when.specs.When.{holdsWhen};
 ghost use Rattle.rule_target.specs.Target.{targetOf, breaksTarget, targetRule};
 ghost use Rattle.key_order.specs.Order.{sumsOf, inKeyOrder, areFit};
 ghost use Rattle.key_lookup.specs.Lookup.{keyOf, isFound};
 ghost use Rattle.ordered_target.specs.Found.{oneText};
+use json_bytes::byte_at;
 use json_same::Case;
 use json_same::same_text;
 use key_lookup::Lookup;
@@ -40,10 +42,34 @@ struct Reached {
     near: usize,
 }
 
-// Whether record q of the target table is one that has the text at `at`.
+// Where the value of field k of record r ends: that cell stands behind the one of its start, so it is read
+// as a start from the cells behind the first.
+fn end_of(cells: &[u32], width: usize, r: usize, k: usize) -> usize
+    ensures { λ x. ⌜ x ≡ startOf (drop 1 (now (cells .entry))) width r k ⌝ }
+{
+    if 0 < cells.len() {
+        return start_of(&cells[1..], width, r, k);
+    }
+    0
+}
+
+// The last byte of a text whose closing quote stands before `end`; 0 where there is none.
+fn byte_before(s: &[u8], end: usize) -> u8
+    ensures { λ x. ⌜ x ≡ cond (ltb end 2) 0 (byteAt (now (s .entry)) (end - 2)) ⌝ }
+{
+    if end < 2 {
+        return 0;
+    }
+    byte_at(s, end - 2)
+}
+
+// Whether record q of the target table is seen to have the text at `at`, whose last byte is `last`. IDs
+// mostly differ in their last digits, so a text that ends in another byte isn't read at all; if only case
+// or an escape tells the two apart, the value is looked up.
 fn is_target(
     s: &[u8],
     at: usize,
+    last: u8,
     u: &[u8],
     u_cells: &[u32],
     u_width: usize,
@@ -54,6 +80,9 @@ fn is_target(
     ensures { λ x. ⌜ (x ≡ true → eqb (targetOf (charsAt (now (s .entry)) at) (table (now (u .entry)) (now («u_cells» .entry)) «u_width» «u_records») m) 0 ≡ false) ⌝ }
 {
     if q < u_records {
+        if last != byte_before(u, end_of(u_cells, u_width, q, m)) {
+            return false;
+        }
         return same_text(s, at, u, start_of(u_cells, u_width, q, m), Case::Folded);
     }
     false
@@ -63,6 +92,7 @@ fn is_target(
 fn guess(
     s: &[u8],
     at: usize,
+    last: u8,
     u: &[u8],
     u_cells: &[u32],
     u_width: usize,
@@ -74,7 +104,7 @@ fn guess(
 {
     if near < u_records {
         let next = near + 1;
-        if is_target(s, at, u, u_cells, u_width, u_records, m, next) {
+        if is_target(s, at, last, u, u_cells, u_width, u_records, m, next) {
             return Near {
                 found: true,
                 record: next,
@@ -82,7 +112,7 @@ fn guess(
         }
     }
     Near {
-        found: is_target(s, at, u, u_cells, u_width, u_records, m, near),
+        found: is_target(s, at, last, u, u_cells, u_width, u_records, m, near),
         record: near,
     }
 }
@@ -126,7 +156,8 @@ fn guess_record(
 {
     if is_asked(s, cells, width, r, t, places, texts) {
         let at = start_of(cells, width, r, t.k);
-        return guess(s, at, u, u_cells, u_width, u_records, t.m, near);
+        let last = byte_before(s, end_of(cells, width, r, t.k));
+        return guess(s, at, last, u, u_cells, u_width, u_records, t.m, near);
     }
     Near {
         found: true,

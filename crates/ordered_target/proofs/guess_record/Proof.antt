@@ -12,12 +12,18 @@ is-asked-requires c κs = search needs
 start-of-requires : tie.Need-start-of-requires
 start-of-requires c κs = search needs
 
+end-of-requires : tie.Need-end-of-requires
+end-of-requires c κs = search needs
+
+byte-before-requires : tie.Need-byte-before-requires
+byte-before-requires c κs = search needs
+
 guess-requires : tie.Need-guess-requires
 guess-requires c κs = search needs
 
 returns : tie.Need-returns
 returns c =
-    (λ e. target-holds _ _ _ _ _ _ _ _ _ (c .before .start-of .ensures) (c .guess .ensures e), λ e. sym (c .before .before .before .is-asked .ensures) ∙ c .before .before .if1 .taken)
+    (λ e. target-holds _ _ _ _ _ _ _ _ _ (c .before .before .before .start-of .ensures) (c .guess .ensures e), λ e. sym (c .before .before .before .before .before .is-asked .ensures) ∙ c .before .before .before .before .if1 .taken)
 
 returns-2 : tie.Need-returns-2
 returns-2 c =
@@ -25,4 +31,4 @@ returns-2 c =
 
 pub guess-record-spec : {M : Type 1} → statement M
 guess-record-spec =
-    tie.close (tie.spec is-asked-requires start-of-requires guess-requires returns returns-2)
+    tie.close (tie.spec is-asked-requires start-of-requires end-of-requires byte-before-requires guess-requires returns returns-2)
