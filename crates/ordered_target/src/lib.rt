@@ -1,9 +1,9 @@
 // A value that some record of another table must have too. Tables mostly name their targets one after the
-// other, so the record behind the target found last is tried first, and then that one again. Only where
-// neither is it, the target records are put in order, and the value is looked up.
+// other, so the record behind the target found last is tried first, then that one again, and then those
+// around it. Only where none of them is it, the target records are put in order, and the value is looked up.
 ghost use mathlib.Core.Path.{_≡_};
 ghost use mathlib.Core.Bool.{true, false, not, cond, _&&_};
-ghost use Prim.Native.Nat.{_-_, _≤_};
+ghost use Prim.Native.Nat.{_+_, _-_, _*_, _≤_};
 ghost use lib.ListN.{length, drop};
 ghost use lib.Dec.{ltb, eqb};
 ghost use Rattle.json_bytes.specs.Reads.{byteAt};
@@ -53,23 +53,23 @@ fn end_of(cells: &[u32], width: usize, r: usize, k: usize) -> usize
     0
 }
 
-// The last byte of a text whose closing quote stands before `end`; 0 where there is none.
-fn byte_before(s: &[u8], end: usize) -> u8
-    ensures { λ x. ⌜ x ≡ cond (ltb end 2) 0 (byteAt (now (s .entry)) (end - 2)) ⌝ }
+// The last two bytes of a text whose closing quote stands before `end`, as one number; 0 where there are none.
+fn tail_before(s: &[u8], end: usize) -> u32
+    ensures { λ x. ⌜ x ≡ cond (ltb end 3) 0 (byteAt (now (s .entry)) (end - 3) * 256 + byteAt (now (s .entry)) (end - 2)) ⌝ }
 {
-    if end < 2 {
+    if end < 3 {
         return 0;
     }
-    byte_at(s, end - 2)
+    (byte_at(s, end - 3) as u32) * 256 + (byte_at(s, end - 2) as u32)
 }
 
-// Whether record q of the target table is seen to have the text at `at`, whose last byte is `last`. IDs
-// mostly differ in their last digits, so a text that ends in another byte isn't read at all; if only case
-// or an escape tells the two apart, the value is looked up.
+// Whether record q of the target table is seen to have the text at `at`, whose last two bytes are `tail`. IDs
+// mostly differ in their last digits, and many go by tens, so a text that ends in other bytes isn't read at all; if
+// only case or an escape tells the two apart, the value is looked up.
 fn is_target(
     s: &[u8],
     at: usize,
-    last: u8,
+    tail: u32,
     u: &[u8],
     u_cells: &[u32],
     u_width: usize,
@@ -80,7 +80,7 @@ fn is_target(
     ensures { λ x. ⌜ (x ≡ true → eqb (targetOf (charsAt (now (s .entry)) at) (table (now (u .entry)) (now («u_cells» .entry)) «u_width» «u_records») m) 0 ≡ false) ⌝ }
 {
     if q < u_records {
-        if last != byte_before(u, end_of(u_cells, u_width, q, m)) {
+        if tail != tail_before(u, end_of(u_cells, u_width, q, m)) {
             return false;
         }
         return same_text(s, at, u, start_of(u_cells, u_width, q, m), Case::Folded);
@@ -88,11 +88,49 @@ fn is_target(
     false
 }
 
-// Tries the record behind the one that was found last, and then that one.
+// Tries the records around the one that was found last, from the third behind it to the fourth before it.
+fn guess_around(
+    s: &[u8],
+    at: usize,
+    tail: u32,
+    u: &[u8],
+    u_cells: &[u32],
+    u_width: usize,
+    u_records: usize,
+    m: usize,
+    near: usize,
+) -> Near
+    ensures { λ x. ⌜ (x .found ≡ true → eqb (targetOf (charsAt (now (s .entry)) at) (table (now (u .entry)) (now («u_cells» .entry)) «u_width» «u_records») m) 0 ≡ false) ⌝ }
+{
+    let none = Near {
+        found: false,
+        record: near,
+    };
+    if 4096 < near {
+        return none;
+    }
+    let top = near + 3;
+    let mut d = 0;
+    while d < 8 {
+        if d <= top {
+            let q = top - d;
+            if is_target(s, at, tail, u, u_cells, u_width, u_records, m, q) {
+                return Near {
+                    found: true,
+                    record: q,
+                };
+            }
+        }
+        d += 1;
+    }
+    none
+}
+
+// Tries the record behind the one that was found last, then that one, and then those around it.
 fn guess(
     s: &[u8],
     at: usize,
-    last: u8,
+    tail: u32,
     u: &[u8],
     u_cells: &[u32],
     u_width: usize,
@@ -104,17 +142,20 @@ fn guess(
 {
     if near < u_records {
         let next = near + 1;
-        if is_target(s, at, last, u, u_cells, u_width, u_records, m, next) {
+        if is_target(s, at, tail, u, u_cells, u_width, u_records, m, next) {
             return Near {
                 found: true,
                 record: next,
             };
         }
     }
-    Near {
-        found: is_target(s, at, last, u, u_cells, u_width, u_records, m, near),
-        record: near,
+    if is_target(s, at, tail, u, u_cells, u_width, u_records, m, near) {
+        return Near {
+            found: true,
+            record: near,
+        };
     }
+    guess_around(s, at, tail, u, u_cells, u_width, u_records, m, near)
 }
 
 // Whether record r breaks the rule if no target record has its value.
@@ -156,8 +197,8 @@ fn guess_record(
 {
     if is_asked(s, cells, width, r, t, places, texts) {
         let at = start_of(cells, width, r, t.k);
-        let last = byte_before(s, end_of(cells, width, r, t.k));
-        return guess(s, at, last, u, u_cells, u_width, u_records, t.m, near);
+        let tail = tail_before(s, end_of(cells, width, r, t.k));
+        return guess(s, at, tail, u, u_cells, u_width, u_records, t.m, near);
     }
     Near {
         found: true,

@@ -16,8 +16,22 @@ is-target-requires-2 : tie.Need-is-target-requires-2
 is-target-requires-2 c κs = search needs
 
 returns-2 : tie.Need-returns-2
-returns-2 c = search needs
+returns-2 c = λ e. c .before .is-target2 .ensures (c .if3 .taken)
+
+guess-around-requires : tie.Need-guess-around-requires
+guess-around-requires c κs = search needs
+
+returns-3 : tie.Need-returns-3
+returns-3 c = c .guess-around .ensures
 
 pub guess-spec : {M : Type 1} → statement M
 guess-spec =
-    tie.close (tie.spec add-next is-target-requires returns is-target-requires-2 returns-2)
+    tie.close
+    (tie.spec
+    add-next
+    is-target-requires
+    returns
+    is-target-requires-2
+    returns-2
+    guess-around-requires
+    returns-3)

@@ -15,8 +15,8 @@ start-of-requires c κs = search needs
 end-of-requires : tie.Need-end-of-requires
 end-of-requires c κs = search needs
 
-byte-before-requires : tie.Need-byte-before-requires
-byte-before-requires c κs = search needs
+tail-before-requires : tie.Need-tail-before-requires
+tail-before-requires c κs = search needs
 
 guess-requires : tie.Need-guess-requires
 guess-requires c κs = search needs
@@ -31,4 +31,4 @@ returns-2 c =
 
 pub guess-record-spec : {M : Type 1} → statement M
 guess-record-spec =
-    tie.close (tie.spec is-asked-requires start-of-requires end-of-requires byte-before-requires guess-requires returns returns-2)
+    tie.close (tie.spec is-asked-requires start-of-requires end-of-requires tail-before-requires guess-requires returns returns-2)

@@ -9,8 +9,8 @@ use Rattle.ordered_target.proofs.is_target.Tie as tie
 end-of-requires : tie.Need-end-of-requires
 end-of-requires c κs = search needs
 
-byte-before-requires : tie.Need-byte-before-requires
-byte-before-requires c κs = search needs
+tail-before-requires : tie.Need-tail-before-requires
+tail-before-requires c κs = search needs
 
 returns : tie.Need-returns
 returns c = λ e. absurd (true≢false (sym e))
@@ -28,4 +28,4 @@ returns-3 : tie.Need-returns-3
 returns-3 c = λ e. absurd (true≢false (sym e))
 
 pub is-target-spec : {M : Type 1} → statement M
-is-target-spec = tie.close (tie.spec end-of-requires byte-before-requires returns start-of-requires same-text-requires returns-2 returns-3)
+is-target-spec = tie.close (tie.spec end-of-requires tail-before-requires returns start-of-requires same-text-requires returns-2 returns-3)
