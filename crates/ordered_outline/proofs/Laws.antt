@@ -1,11 +1,12 @@
--- A record breaks mark 80 exactly if no task with its parent's TaskID and the type is found in the order of tasks.
--- Assumes nothing.
+-- A record breaks mark 80 exactly if no task with its parent's TaskID and the type is found in the order of tasks, and not where
+-- one task is seen to have both. Assumes nothing.
 use Prim.Native.Nat.{ℕ, suc, _-_, _<_}
 use mathlib.Core.Path.{_≡_, refl, sym, ap, _∙_, fun-ext}
 use mathlib.Core.Bool.{Bool, true, false, cond, not, _&&_}
 use mathlib.Core.List.{List}
 use native.Mathlib.Nat.{sub-zero}
 use native.Mathlib.Omega.{arith}
+use borrow.Author.Tests.{eq-eqb, ne-eqb}
 use lib.ListN.{length}
 use lib.Dec.{ltb, eqb}
 use Rattle.json_same.specs.Same.{sameAs}
@@ -18,6 +19,7 @@ use Rattle.rule_key.proofs.Laws.{both-ways}
 use Rattle.rule_outline.specs.declared.Outline.{Outline}
 use Rattle.rule_outline.specs.Outline.{levelOf, levelOne, parentShown, outlineAt, someOf, isTyped, parentTypeBreaks, parentTypeRule}
 use Rattle.rule_outline.proofs.Laws.{parent-type-rule-starts}
+use Rattle.rule_outline.proofs.Rules.{some-there}
 use Rattle.key_order.specs.Order.{sumsOf, inKeyOrder, areFit, sumsAfter, orderAfter}
 use Rattle.key_order.proofs.Lists.{fit-sums, fit-order}
 use Rattle.key_lookup.specs.declared.Lookup.{Lookup}
@@ -28,6 +30,28 @@ use Rattle.ordered_outline.specs.Typed.{typeBreaksLookup}
 -- a text in field id, and in field type that which stands at a place
 abbrev pub typedAt : ℕ → ℕ → ℕ → Lookup
 typedAt id type also = record { m = id; k = type; kind = 1; also = also }
+
+-- ---- one record of the rule, by the parent that is shown of it
+module _ (t : Table) (level task : ℕ) (parents : ℕ → ℕ) (b cells : List ℕ) (width n id type : ℕ) (word : List ℕ) (r : ℕ) where
+  shown-breaks : cond (eqb (parentShown t level parents r) 0) false (not (someOf (isTyped t (parentShown t level parents r - 1) task (table b cells width 0) id type word) n)) ≡ parentTypeBreaks t level task parents (table b cells width n) id type word r
+  unfolding parentTypeBreaks parentShown isTyped sameText isWord textOf
+  shown-breaks = go (eqb (levelOf t level r) levelOne)
+    where
+      go : (x : Bool) → cond (eqb (cond x 0 (parents r)) 0) false (not (someOf (isTyped t (cond x 0 (parents r) - 1) task (table b cells width 0) id type word) n)) ≡ cond x false (cond (eqb (parents r) 0) false (not (someOf (isTyped t (parents r - 1) task (table b cells width 0) id type word) n)))
+      go true = refl
+      go false = refl
+
+  module _ {p : ℕ} (isShown : p ≡ parentShown t level parents r) where
+    pub no-parent-keeps : p ≡ 0 → parentTypeBreaks t level task parents (table b cells width n) id type word r ≡ false
+    no-parent-keeps e = sym shown-breaks ∙ rw (← isShown, eq-eqb p 0 e)
+
+    pub typed-parent-keeps : (p ≡ 0 → ⊥) → someOf (isTyped t (p - 1) task (table b cells width 0) id type word) n ≡ true → parentTypeBreaks t level task parents (table b cells width n) id type word r ≡ false
+    typed-parent-keeps e h = sym shown-breaks ∙ rw (← isShown, ne-eqb p 0 e, h)
+
+-- a task that is seen to have the TaskID and the type is one that has them
+pub typed-there : (t : Table) (p task : ℕ) (u : Table) (n id type : ℕ) (word : List ℕ) (q : ℕ) → q < n → sameText t p task u q id ≡ true → isWord u q type word ≡ true → someOf (isTyped t p task u id type word) n ≡ true
+unfolding isTyped
+typed-there t p task u n id type word q l e h = some-there (isTyped t p task u id type word) n q l (rw (e, h))
 
 -- ---- two texts of which one is a word are the same exactly if the other is
 one-word : (a b word : List ℕ) → sameAs Folded a word ≡ true → sameAs Folded a b ≡ sameAs Folded b word
@@ -50,12 +74,10 @@ module _ (b cells : List ℕ) (width id type : ℕ) (word : List ℕ) (q : ℕ) 
 
   module _ (t : Table) (n level task : ℕ) (parents : ℕ → ℕ) where
     breaks-same : (r : ℕ) → typeBreaksLookup t level task parents (table b cells width 0) l (sumsOf (table b cells width 0) id n) (inKeyOrder (table b cells width 0) (keyOf l) n) r ≡ parentTypeBreaks t level task parents (table b cells width n) id type word r
-    unfolding typeBreaksLookup parentTypeBreaks parentShown isTyped sameText isWord textOf
-    breaks-same r = go (eqb (levelOf t level r) levelOne)
-      where
-        go : (x : Bool) → cond (eqb (cond x 0 (parents r)) 0) false (not (isFound (table b cells width 0) l (sumsOf (table b cells width 0) id n) (inKeyOrder (table b cells width 0) (keyOf l) n) (textOf t (cond x 0 (parents r) - 1) task))) ≡ cond x false (cond (eqb (parents r) 0) false (not (someOf (isTyped t (parents r - 1) task (table b cells width 0) id type word) n)))
-        go true = refl
-        go false = ap (λ (y : Bool). cond (eqb (parents r) 0) false (not y)) (found-typed n t (parents r - 1) task)
+    unfolding typeBreaksLookup
+    breaks-same r =
+        ap (λ (y : Bool). cond (eqb (parentShown t level parents r) 0) false (not y)) (found-typed n t (parentShown t level parents r - 1) task)
+        ∙ shown-breaks t level task parents b cells width n id type word r
 
 -- ---- what the lent lists say, once they are filled, is the rule's answer
 module _ (s cells : List ℕ) (width n level task : ℕ) (parents : ℕ → ℕ) (u-bytes u-cells : List ℕ) (u-width u-n id type : ℕ) (word : List ℕ) where
