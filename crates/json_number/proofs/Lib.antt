@@ -4,6 +4,7 @@ pub mod Trim
 pub mod Digits
 pub mod Limits
 pub mod Parts
+pub mod Alone
 pub mod Places
 pub mod Laws
 pub mod Cases

@@ -2,8 +2,9 @@
 -- added here asks nothing of those above.
 use mathlib.Core.Bool.{Bool, true}
 use Rattle.json_bytes.proofs.Opens.{open-bytes}
+use Rattle.json_number.specs.Alone.{goesOn}
 use Rattle.json_number.specs.Number.{isDigit, formed, zerosWithin, fractionAt, coefficientAt, powerAt, signedAt, exponentAt, withinLimits, limited, valueOf, withExponent, withCoefficient, numberAt, wholeOf, integerOf, signOf, sameParts, sameValue}
 
 unfoldable pub open-numbers : Bool
-unfolding open-bytes isDigit formed zerosWithin fractionAt coefficientAt powerAt signedAt exponentAt withinLimits limited valueOf withExponent withCoefficient numberAt wholeOf integerOf signOf sameParts sameValue
+unfolding open-bytes isDigit formed zerosWithin fractionAt coefficientAt powerAt signedAt exponentAt withinLimits limited valueOf withExponent withCoefficient numberAt wholeOf integerOf signOf sameParts sameValue goesOn
 open-numbers = true

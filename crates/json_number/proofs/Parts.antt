@@ -8,7 +8,7 @@ use native.Mathlib.Omega.{arith}
 use borrow.Author.Tests.{eq-eqb, ne-eqb}
 use lib.ListN.{drop}
 use Rattle.json_bytes.specs.Reads.{byteAt}
-use Rattle.json_number.specs.Number.{digitsAt, formed, fractionAt, coefficientAt, powerAt, signedAt, exponentAt, valueOf, stoppedAt, withExponent, withCoefficient, numberAt}
+use Rattle.json_number.specs.Number.{digitsAt, formed, trimmedAt, fractionAt, coefficientAt, powerAt, signedAt, exponentAt, valueOf, stoppedAt, withExponent, withCoefficient, numberAt}
 use Rattle.json_number.specs.Capped.{cap, cappedCoefficient, cappedExponent, Carried}
 use Rattle.json_number.specs.declared.Coefficient.{Coefficient}
 use Rattle.json_number.specs.declared.Coefficient.the-variants.{Digits, NoDigit}
@@ -21,9 +21,12 @@ use Rattle.json_number.proofs.Limits.{c-capped, e-capped}
 
 -- ---- The fraction, by the byte b that stands where its point would, behind digits that form x
 module _ (s : List ℕ) (i b : ℕ) (is : b ≡ byteAt s i) (x : ℕ) where
-  pub fraction-absent : (b ≡ 46 → ⊥) → {value kept zeros : ℕ} → Carried x value kept zeros → Digits i kept zeros 0 ≡ cappedCoefficient (fractionAt s i x)
+  pub fraction-none : (b ≡ 46 → ⊥) → fractionAt s i x ≡ trimmedAt i x 0
   unfolding fractionAt
-  fraction-absent n h = rw (← is, ne-eqb b 46 n, h .1, h .2)
+  fraction-none n = rw (← is, ne-eqb b 46 n)
+
+  pub fraction-absent : (b ≡ 46 → ⊥) → {value kept zeros : ℕ} → Carried x value kept zeros → Digits i kept zeros 0 ≡ cappedCoefficient (fractionAt s i x)
+  fraction-absent n h = rw (fraction-none n, h .1, h .2)
 
   pub fraction-empty : b ≡ 46 → {end : ℕ} → end ≡ i + 1 + digitsAt s (i + 1) → end ≡ i + 1 → NoDigit (i + 1) ≡ cappedCoefficient (fractionAt s i x)
   unfolding fractionAt

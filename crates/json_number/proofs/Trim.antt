@@ -109,3 +109,13 @@ trimmed-whole c = go (ℕ-discrete c 0)
     go : Dec (c ≡ 0) → trimmed c * 10 ^ endZeros c ≡ c
     go (yes z) = ap (λ (x : ℕ). trimmed x * 10 ^ endZeros x) z ∙ ap (λ (x : ℕ). x * 10 ^ endZeros 0) trimmed-zero ∙ zero-mul (10 ^ endZeros 0) ∙ sym z
     go (no n) = sym (trims c n .whole)
+
+-- ---- One digit is its own form
+pub one-digit : (c : ℕ) → c ≤ 9 → (trimmed c ≡ c) × (endZeros c ≡ 0)
+one-digit c l = go (ℕ-discrete c 0)
+  where
+    go : Dec (c ≡ 0) → (trimmed c ≡ c) × (endZeros c ≡ 0)
+    go (yes z) = (ap trimmed z ∙ trimmed-zero ∙ sym z, ap endZeros z ∙ zeros-zero)
+    go (no n) =
+        let rest : c % 10 ≡ 0 → ⊥ = omega arith in
+        (trimmed-of (no-zero c rest), zeros-of (no-zero c rest))

@@ -7,6 +7,7 @@ ghost use Prim.Native.Nat.{ℕ, _+_, _*_, _-_, _^_, _≤_, _<_, min};
 ghost use lib.ListN.{length, drop};
 ghost use lib.Dec.{eqb};
 ghost use Rattle.json_number.specs.Number.{isDigit, digitsAt, formed, fractionAt, coefficientAt, powerAt, signedAt, exponentAt, valueOf, stoppedAt, withExponent, withCoefficient, numberAt, largest, withinLimits, wholeOf, integerOf, signOf, magnitude, sameParts, sameValue};
+ghost use Rattle.json_number.specs.Alone.{goesOn};
 ghost use Rattle.json_number.specs.Capped.{cap, cappedCoefficient, cappedExponent, Carried};
 use json_bytes::Reading;
 use json_bytes::byte_at;
@@ -330,8 +331,8 @@ fn powered_at(s: &[u8], at: usize, negative: bool, c: u64, zeros: usize, fractio
     }
 }
 
-// A number without its sign.
-fn unsigned_at(s: &[u8], at: usize, negative: bool) -> Number
+// A number without its sign, of however many digits.
+fn several_at(s: &[u8], at: usize, negative: bool) -> Number
     ensures { λ r. ⌜ r ≡ withCoefficient (now (s .entry)) negative (coefficientAt (now (s .entry)) at) ⌝ }
 {
     let digits = coefficient_at(s, at);
@@ -343,6 +344,41 @@ fn unsigned_at(s: &[u8], at: usize, negative: bool) -> Number
             fraction,
         } => powered_at(s, end, negative, c, zeros, fraction),
         Coefficient::NoDigit { place } => stopped(place),
+    }
+}
+
+// Whether a number that a digit begins goes on with the byte behind that digit.
+fn goes_on(b: u8) -> bool
+    ensures { λ r. ⌜ r ≡ goesOn b ⌝ }
+{
+    if is_digit(b) {
+        return true;
+    }
+    if b == b'.' {
+        return true;
+    }
+    if b == b'e' {
+        return true;
+    }
+    b == b'E'
+}
+
+// A number without its sign. Most are one digit, which is then read without a loop.
+fn unsigned_at(s: &[u8], at: usize, negative: bool) -> Number
+    ensures { λ r. ⌜ r ≡ withCoefficient (now (s .entry)) negative (coefficientAt (now (s .entry)) at) ⌝ }
+{
+    let b = byte_at(s, at);
+    if !is_digit(b) {
+        return several_at(s, at, negative);
+    }
+    let end = at + 1;
+    if goes_on(byte_at(s, end)) {
+        return several_at(s, at, negative);
+    }
+    let value = value_of(negative, wide(b) - 48, 0, 0, false, 0);
+    Number {
+        reading: Reading::Whole { end },
+        value,
     }
 }
 
