@@ -55,7 +55,8 @@ fn add_short_strings(cases: &mut Cases) {
 }
 
 fn add_each_byte_after_each_front(cases: &mut Cases) {
-    let fronts = ["", "-", "0", "-0", "10", "1.", "1.5", "1e", "1E+", "1e-", "1e5", "1.5e05"];
+    let fronts =
+        ["", "-", "0", "-0", "1", "-9", "10", "1.", "1.5", "1e", "1E+", "1e-", "1e5", "1.5e05"];
     for front in fronts {
         cases.number(front);
         for byte in 0..=255 {
