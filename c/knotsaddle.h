@@ -53,7 +53,7 @@
  * memory for it. A refused call leaves every list as it was, but for one: a refused judgement, unless by 100, 102 or 103, makes
  * every mark 'not judged'.
  *
- * STACK: judging, trying and making need some 138 KB below the caller's frame, in either layer, telling a reason some 141 KB, and
+ * STACK: judging, trying and making need some 139 KB below the caller's frame, in either layer, telling a reason some 142 KB, and
  * all of them less than KNOTSADDLE_STACK bytes; a stack that is too small ends in a crash without a word. The name of a field
  * needs less than 8 KB, the other calls less than 2 KB.
  *

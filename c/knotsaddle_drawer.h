@@ -31,7 +31,7 @@
  * never give 100. Those that get a workspace of their own give 102, before all others, where there is no memory for it. A refused call
  * leaves everything as it was, but for one: a refused judgement, unless by 100 or 102, makes every mark 'not judged'.
  *
- * STACK: judging, trying and making need some 137 KB below the caller's frame and less than KNOTSADDLE_STACK bytes, the other calls less
+ * STACK: judging, trying and making need some 138 KB below the caller's frame and less than KNOTSADDLE_STACK bytes, the other calls less
  * than 2 KB. */
 #ifndef KNOTSADDLE_DRAWER_H
 #define KNOTSADDLE_DRAWER_H

@@ -6,8 +6,8 @@
 //! `c/knotsaddle.h` what the numbers of a board mean.
 //!
 //! `judge`, `try_change`, `make_change` and `reason` get a workspace of 3,178,808 bytes from the heap and give it back.
-//! `judge_in`, `try_in`, `make_in` and `reason_in` do the same in a workspace that the caller lends. A reason uses some 141 KB of
-//! stack, the others some 138 KB. Nothing is kept between calls, so any number of threads may call at once.
+//! `judge_in`, `try_in`, `make_in` and `reason_in` do the same in a workspace that the caller lends. A reason uses some 142 KB of
+//! stack, the others some 139 KB. Nothing is kept between calls, so any number of threads may call at once.
 
 use std::fmt;
 
