@@ -6,20 +6,25 @@ use mathlib.Core.Bool.{Bool, true, false, _||_}
 use mathlib.Core.List.{List}
 use native.Mathlib.Decide.{ℕ-discrete, decLe}
 use native.Mathlib.Omega.{arith}
-use borrow.Author.Tests.{eqb-false}
+use borrow.Author.Tests.{ne-eqb, eqb-false}
 use lib.ListN.{length, drop}
-use lib.Dec.{eqb}
+use lib.Dec.{eqb, lit≤}
 use Rattle.json_bytes.specs.Reads.{byteAt}
 use Rattle.json_bytes.specs.declared.Reading.the-variants.{Whole}
 use Rattle.json_bytes.proofs.Laws.{inside, run-more, run-stops, run-ends}
-use Rattle.json_number.specs.Number.{isDigit, digitsAt, formed, trimmedAt, fractionAt, coefficientAt, exponentAt, valueOf, withExponent, withCoefficient}
+use Rattle.json_number.specs.Number.{isDigit, digitsAt, formed, trimmedAt, fractionAt, coefficientAt, exponentAt, largest, withinLimits, valueOf, withExponent, withCoefficient, numberAt, wholeOf, integerOf}
 use Rattle.json_number.specs.Alone.{goesOn}
 use Rattle.json_number.specs.declared.Coefficient.the-variants.{Digits}
 use Rattle.json_number.specs.declared.Exponent.the-variants.{Power}
 use Rattle.json_number.specs.declared.Value.{Value}
+use Rattle.json_number.specs.declared.Value.the-variants.{Fits}
+use Rattle.json_number.specs.declared.Number.{Number}
+use Rattle.json_number.specs.declared.Integer.the-variants.{Is}
+use Rattle.json_number.proofs.Scale.{whole-zero, whole-raised}
+use Rattle.json_number.proofs.Limits.{limited-is, value-within}
 use Rattle.json_number.proofs.Trim.{one-digit}
 use Rattle.json_number.proofs.Digits.{digit-range, formed-more, formed-stops, formed-ends}
-use Rattle.json_number.proofs.Parts.{zero-alone, some-digits, fraction-none, letter-none}
+use Rattle.json_number.proofs.Parts.{zero-alone, some-digits, fraction-none, letter-none, number-plain}
 
 -- ---- A byte with which no number goes on
 neither : (a b : Bool) → (a || b) ≡ false → (a ≡ false) × (b ≡ false)
@@ -91,3 +96,32 @@ digit-alone s negative i d n =
 pub alone-is : (s : List ℕ) (negative : Bool) (i : ℕ) {b n w : ℕ} {v : Value} → b ≡ byteAt s i → isDigit b ≡ true → n ≡ byteAt s (i + 1) → goesOn n ≡ false → w ≡ b → v ≡ valueOf negative (w - 48) 0 0 false 0 → record { reading = Whole (i + 1); value = v } ≡ withCoefficient s negative (coefficientAt s i)
 alone-is s negative i is d behind n wide value =
     rw (value, wide, is) (sym (digit-alone s negative i (ap isDigit (sym is) ∙ d) (ap goesOn (sym behind) ∙ n)))
+
+-- ---- The number as an Integer
+-- a c of few digits, with no sign, fraction or exponent, is its own magnitude: zero like any other
+own-value : (c : ℕ) → c ≤ largest → valueOf false c 0 0 false 0 ≡ Fits false c 15
+unfolding valueOf
+own-value c l = go (ℕ-discrete c 0)
+  where
+    go : Dec (c ≡ 0) → valueOf false c 0 0 false 0 ≡ Fits false c 15
+    go (yes z) = rw z
+    go (no n) = rw (ne-eqb c 0 n) (limited-is false c 0 0 l refl (lit≤ tt))
+
+own-integer : (c : ℕ) → c ≤ largest → integerOf (valueOf false c 0 0 false 0) ≡ Is false c
+unfolding integerOf
+own-integer c l = ap integerOf (own-value c l) ∙ go (ℕ-discrete c 0)
+  where
+    within : withinLimits c 15 ≡ true
+    within = value-within false c 0 0 false 0 (own-value c l)
+
+    go : Dec (c ≡ 0) → wholeOf false c 15 ≡ Is false c
+    go (yes z) = whole-zero false c 15 within z ∙ ap (Is false) (sym z)
+    go (no n) = whole-raised false c 15 0 1 within refl refl n l ∙ ap (Is false) (omega arith)
+
+-- the Integer of a digit that stands alone, from what the code has in hand: the digit b, the byte n behind it, and b as a
+-- wider number w
+pub alone-integer : (s : List ℕ) (i : ℕ) {b n w : ℕ} → b ≡ byteAt s i → isDigit b ≡ true → n ≡ byteAt s (i + 1) → goesOn n ≡ false → w ≡ b → Is false (w - 48) ≡ integerOf (numberAt s i .value)
+alone-integer s i {b} {n} {w} is d behind stops wide =
+    let range : (48 ≤ b) × (b ≤ 57) = digit-range b d in
+    let number : record { reading = Whole (i + 1); value = valueOf false (w - 48) 0 0 false 0 } ≡ numberAt s i = alone-is s false i is d behind stops wide refl ∙ sym (number-plain s i b is (omega (arith, range .0))) in
+    sym (own-integer (w - 48) (omega (arith, range .1, wide))) ∙ ap (λ (v : Number). integerOf (v .value)) number

@@ -16,7 +16,7 @@ use json_bytes::is_within;
 // The largest c within the limits, and the largest magnitude of an Integer.
 const LARGEST: u64 = 999_999_999_999_999;
 
-// Zero is read without a sign.
+// Zero is read without a sign, and so is a digit with none before it.
 const NO_SIGN: bool = false;
 
 // A number's value, ±c times 10 to the p, with p kept as p + 15; or that c or p is outside the
@@ -459,6 +459,23 @@ pub fn integer_of(v: Value) -> Integer
         Value::Fits { negative, c, p15 } => whole_of(negative, c, p15),
         Value::Beyond => Integer::TooLarge,
     }
+}
+
+// The number at a place as an Integer. Most are one digit, whose value needs no power of ten.
+pub fn integer_at(s: &[u8], at: usize) -> Integer
+    ensures { λ r. ⌜ r ≡ integerOf (numberAt (now (s .entry)) at .value) ⌝ }
+{
+    let b = byte_at(s, at);
+    if is_digit(b) {
+        if !goes_on(byte_at(s, at + 1)) {
+            return Integer::Is {
+                negative: NO_SIGN,
+                magnitude: wide(b) - 48,
+            };
+        }
+    }
+    let value = number_at(s, at).value;
+    integer_of(value)
 }
 
 // A value compared with zero: `-0` is zero. What is beyond the limits is not compared, and answers

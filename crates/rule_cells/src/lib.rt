@@ -8,7 +8,7 @@ use json_date::Date;
 use json_date::date_at;
 use json_number::Integer;
 use json_number::Sign;
-use json_number::integer_of;
+use json_number::integer_at;
 use json_number::number_at;
 use json_number::sign_of;
 use json_same::Case;
@@ -102,8 +102,7 @@ pub fn integer_in(s: &[u8], cells: &[u32], width: usize, r: usize, k: usize) -> 
     ensures { λ x. ⌜ x ≡ integerIn (table (now (s .entry)) (now (cells .entry)) width 0) r k ⌝ }
 {
     if is_given(cells, width, r, k) {
-        let value = number_at(s, start_of(cells, width, r, k)).value;
-        return integer_of(value);
+        return integer_at(s, start_of(cells, width, r, k));
     }
     Integer::Is {
         negative: false,

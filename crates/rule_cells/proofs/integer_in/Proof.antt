@@ -12,15 +12,12 @@ is-given-requires c κs = search needs
 start-of-requires : tie.Need-start-of-requires
 start-of-requires c κs = search needs
 
-number-at-requires : tie.Need-number-at-requires
-number-at-requires c κs = search needs
-
-integer-of-requires : tie.Need-integer-of-requires
-integer-of-requires c κs = search needs
+integer-at-requires : tie.Need-integer-at-requires
+integer-at-requires c κs = search needs
 
 returns : tie.Need-returns
 unfolding integerIn
-returns c = rw (sym (c .before .before .before .before .is-given .ensures) ∙ c .before .before .before .if1 .taken, ← (c .before .before .start-of .ensures), ← (c .before .number-at .ensures)) (c .integer-of .ensures)
+returns c = rw (sym (c .before .before .before .is-given .ensures) ∙ c .before .before .if1 .taken, ← (c .before .start-of .ensures)) (c .integer-at .ensures)
 
 returns-2 : tie.Need-returns-2
 unfolding integerIn
@@ -32,7 +29,6 @@ integer-in-spec =
     (tie.spec
     is-given-requires
     start-of-requires
-    number-at-requires
-    integer-of-requires
+    integer-at-requires
     returns
     returns-2)

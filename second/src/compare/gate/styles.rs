@@ -137,6 +137,13 @@ const MORE_BEHIND_DIGITS: [&[u8]; 8] = [
     b"000000000000000.00000000000000000e-15",
 ];
 
+/// Integers of one digit and those beside them: with more behind the first digit,
+/// a sign before it or white space behind it, and two that are no JSON.
+pub(in crate::compare) const SHORT_INTEGERS: [&[u8]; 24] = [
+    b"0", b"-0", b"0 ", b"0.0", b"0e1", b"1", b"-1", b"1 ", b"1\n", b"1.0", b"1e0", b"1E0",
+    b"10e-1", b"0.1e1", b"01", b"1.", b"2", b"9", b"9\t", b"9.0", b"90e-1", b"10", b"10 ", b"1e1",
+];
+
 #[cfg(test)]
 mod tests {
     use super::*;

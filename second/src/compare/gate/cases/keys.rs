@@ -4,7 +4,7 @@
 use super::Cases;
 use crate::compare::draft::Draft;
 use crate::compare::gate::set_draft::{places_from, SetDraft};
-use crate::compare::gate::styles::{escaped, recased};
+use crate::compare::gate::styles::{escaped, recased, SHORT_INTEGERS};
 use crate::fields::{fields_of, Field, Type};
 use crate::rules::{rule, Rule};
 
@@ -20,6 +20,7 @@ pub(super) fn add(cases: &mut Cases) {
     add_pairs(cases, 7, "Ordinal", &ORDINALS);
     add_pairs(cases, 8, "ExceptionDate", &DATES);
     add_many_ordinals(cases);
+    add_written_ordinals(cases);
 }
 
 /// Each choice among the key's parts is shared with an earlier record; only a
@@ -115,8 +116,19 @@ fn add_pairs_of_ids(cases: &mut Cases, table: usize, fields: &[&str]) {
 
 /// Every two of the values, either one first.
 fn add_pairs(cases: &mut Cases, table: usize, name: &str, values: &[Option<&[u8]>]) {
+    let record = cases.base.records(table)[0].clone();
+    add_pairs_in(cases, table, &record, name, values);
+}
+
+/// Every two of the values in two records that are else like this one.
+fn add_pairs_in(
+    cases: &mut Cases,
+    table: usize,
+    record: &Draft,
+    name: &str,
+    values: &[Option<&[u8]>],
+) {
     let base = cases.base.only(&[table]);
-    let record = base.records(table)[0].clone();
     for (index, first) in values.iter().enumerate() {
         for second in &values[index..] {
             let mut records = [record.with_choice(name, *first), record.with_choice(name, *second)];
@@ -207,5 +219,14 @@ fn add_many_ordinals(cases: &mut Cases) {
             .map(|_| record.with_choice("Ordinal", cases.random.pick(&ORDINALS)))
             .collect();
         cases.judge_set(&base.with_records(7, &records));
+    }
+}
+
+/// Every two forms of a short Ordinal, before a comma and before the record's end.
+fn add_written_ordinals(cases: &mut Cases) {
+    let record = cases.base.records(7)[0].clone();
+    // A field that wasn't there becomes the last one.
+    for record in [record.without("Ordinal"), record] {
+        add_pairs_in(cases, 7, &record, "Ordinal", &SHORT_INTEGERS.map(Some));
     }
 }

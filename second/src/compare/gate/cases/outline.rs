@@ -5,7 +5,7 @@ use super::random_tables::random_outline;
 use super::Cases;
 use crate::compare::draft::Draft;
 use crate::compare::gate::set_draft::SetDraft;
-use crate::compare::gate::styles::{recased, renumbered};
+use crate::compare::gate::styles::{recased, renumbered, SHORT_INTEGERS};
 use crate::compare::random::Random;
 
 /// Levels on both sides of 1.
@@ -21,6 +21,9 @@ pub(super) fn add(cases: &mut Cases) {
     }
     for levels in ODD_RUNS {
         add_run(cases, levels);
+    }
+    for count in STAIRS {
+        add_written_levels(cases, count);
     }
     for _ in 0..LONGER_RUNS {
         add_longer(cases);
@@ -169,6 +172,37 @@ fn tasks_with_one_other(count: usize, other: usize) -> Vec<Draft> {
             task.with_value("Name", b"\"N\"").with_value("TaskTypeID", kind)
         })
         .collect()
+}
+
+// ----------------------------------------------- one Level in each form
+
+/// How many records, each one Level down, stand before the one that is written:
+/// behind 8 a 9 with the row above as its parent holds, and behind 9 a 10, where
+/// a 1 read for it breaks 79.
+const STAIRS: [usize; 4] = [0, 1, 8, 9];
+
+/// The Level in each form, before a comma and before the record's end, with no
+/// parent and with the row above, or itself if there is none.
+fn add_written_levels(cases: &mut Cases, count: usize) {
+    let row = |at: usize, level: &[u8], parent: Option<usize>| {
+        let row = Draft::default().with_value("Level", level).with_value("TaskID", &task_id(at));
+        row.with_choice("ParentTaskID", parent.map(task_id).as_deref())
+    };
+    let stair: Vec<Draft> =
+        (0..count).map(|at| row(at, (at + 1).to_string().as_bytes(), at.checked_sub(1))).collect();
+    let tasks = tasks_with_one_other(count + 1, count + 1);
+    for level in SHORT_INTEGERS {
+        for parent in [None, Some(count.saturating_sub(1))] {
+            let first = row(count, level, parent);
+            let mut last = first.clone();
+            last.members.rotate_left(1);
+            for written in [first, last] {
+                let outline = [&stair[..], &[written]].concat();
+                let set = SetDraft::empty().with_records(15, &outline).with_records(9, &tasks);
+                cases.judge_set(&set);
+            }
+        }
+    }
 }
 
 // --------------------------------------------------------- at random
