@@ -15,6 +15,7 @@ use json_bytes::byte_at;
 use json_bytes::is_within;
 use json_bytes::skip_spaces;
 use table_name::Next;
+use table_name::fill_hints;
 use table_name::first_in;
 use table_name::names_apart;
 use table_name::next_after;
@@ -89,7 +90,7 @@ fn single_of(s: &[u8], reading: Reading) -> FileRead
 }
 
 // A singleton. It is one record, for which it doesn't pay to find out whether the names are told apart
-// by their bytes.
+// by their bytes: it has no hints.
 fn read_single(
     s: &[u8],
     at: usize,
@@ -101,7 +102,7 @@ fn read_single(
     ensures { λ r. ⌜ tableRead (now (cells .exit)) r ≡ singleAt (fieldsFrom (now (rows .entry)) (now (names .entry)) count 0) (now (s .entry)) (now (cells .entry)) at ⌝ }
 {
     if byte_at(s, at) == b'{' {
-        return single_of(s, read_record(s, at, rows, names, count, false, cells, 0));
+        return single_of(s, read_record(s, at, rows, names, count, b"", cells, 0));
     }
     single_of(s, not_object_at(s, at))
 }
@@ -113,11 +114,11 @@ fn element_at(
     rows: &[u32],
     names: &[u8],
     count: usize,
-    apart: bool,
+    hints: &[u8],
     cells: &mut [u32],
     r: usize,
 ) -> Reading
-    requires { ⌜ (apart ≡ true → namesApart (now rows) (now names) count ≡ true) ⌝ }
+    requires { ⌜ (0 < length (now hints) → namesApart (now rows) (now names) count ≡ true) ⌝ }
     ensures { λ x. ⌜ cellsFilled (now (cells .exit)) x ≡ elementAt (fieldsFrom (now (rows .entry)) (now (names .entry)) count 0) (now (s .entry)) at (now (cells .entry)) r ⌝ }
 {
     if byte_at(s, at) != b'{' {
@@ -137,7 +138,7 @@ fn element_at(
             place: at,
         };
     }
-    read_record(s, at, rows, names, count, apart, cells, r * (2 * count))
+    read_record(s, at, rows, names, count, hints, cells, r * (2 * count))
 }
 
 // The elements from `from` on, up to the closing bracket and the end of the file.
@@ -147,17 +148,17 @@ fn read_elements(
     rows: &[u32],
     names: &[u8],
     count: usize,
-    apart: bool,
+    hints: &[u8],
     cells: &mut [u32],
 ) -> FileRead
     requires { ⌜ (0 < from) × (from ≤ length (now s)) ⌝ }
-    requires { ⌜ (apart ≡ true → namesApart (now rows) (now names) count ≡ true) ⌝ }
+    requires { ⌜ (0 < length (now hints) → namesApart (now rows) (now names) count ≡ true) ⌝ }
     ensures { λ r. ⌜ tableRead (now (cells .exit)) r ≡ elementsFrom (length (now (s .entry))) (fieldsFrom (now (rows .entry)) (now (names .entry)) count 0) (now (s .entry)) from (now (cells .entry)) 0 ⌝ }
 {
     let mut at = from;
     let mut r = 0;
     loop {
-        match element_at(s, at, rows, names, count, apart, cells, r) {
+        match element_at(s, at, rows, names, count, hints, cells, r) {
             Reading::Whole { end } => match next_after(s, end, b']') {
                 Next::More { at: next } => {
                     at = next;
@@ -187,8 +188,29 @@ fn read_elements(
     }
 }
 
-// A table of records. Whether its names are told apart by their bytes is found out once for all of
-// them, and only where there is one.
+// The same. Whether the names are told apart by their bytes is found out once for all elements, and so are the
+// hints, which say by three bytes of a name which field it is likely to be. Where the names are not told apart,
+// there are no hints, and nothing is guessed.
+fn read_hinted(
+    s: &[u8],
+    from: usize,
+    rows: &[u32],
+    names: &[u8],
+    count: usize,
+    cells: &mut [u32],
+) -> FileRead
+    requires { ⌜ (0 < from) × (from ≤ length (now s)) ⌝ }
+    ensures { λ r. ⌜ tableRead (now (cells .exit)) r ≡ elementsFrom (length (now (s .entry))) (fieldsFrom (now (rows .entry)) (now (names .entry)) count 0) (now (s .entry)) from (now (cells .entry)) 0 ⌝ }
+{
+    if !names_apart(rows, names, count) {
+        return read_elements(s, from, rows, names, count, b"", cells);
+    }
+    let mut hints = [255u8; 256];
+    fill_hints(rows, names, count, &mut hints);
+    read_elements(s, from, rows, names, count, &hints, cells)
+}
+
+// A table of records.
 fn read_array(
     s: &[u8],
     at: usize,
@@ -203,10 +225,7 @@ fn read_array(
         return single_of(s, not_object_at(s, at));
     }
     match first_in(s, at, b']') {
-        Next::More { at: first } => {
-            let apart = names_apart(rows, names, count);
-            read_elements(s, first, rows, names, count, apart, cells)
-        }
+        Next::More { at: first } => read_hinted(s, first, rows, names, count, cells),
         Next::Ends { at: last } => end_of_file(s, last + 1, 0),
         Next::Neither { at: place } => FileRead {
             kind: 11,

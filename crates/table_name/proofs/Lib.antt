@@ -4,4 +4,5 @@ pub mod Words
 pub mod Eights
 pub mod Spelling
 pub mod Guess
+pub mod Hints
 pub mod FaultKinds

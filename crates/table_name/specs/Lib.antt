@@ -1,3 +1,4 @@
 pub mod Name
 pub mod Eight
 pub mod Guess
+pub mod Hints

@@ -10,6 +10,7 @@ ghost use Rattle.json_same.specs.Same.{sameAs, sameList};
 ghost use Rattle.table_rows.specs.Rows.{fieldNameAt, fieldsFrom};
 ghost use Rattle.table_name.specs.Eight.{fourAt, eightAt};
 ghost use Rattle.table_name.specs.Guess.{graphicWord, ownName, namesApart, quotedEnd, guessEnd};
+ghost use Rattle.table_name.specs.Hints.{hintOf, hintAt, withHint, hintsOf};
 ghost use Rattle.table_name.specs.Name.{indexOf, namedAt, nameAt, colonAt, firstIn, nextAfter};
 use json_bytes::Reading;
 use json_bytes::byte_at;
@@ -310,6 +311,63 @@ pub fn guess_end(s: &[u8], at: usize, rows: &[u32], names: &[u8], k: usize) -> u
     let from = name_start(rows, k);
     let to = name_end(rows, k);
     quoted_end(s, at, part(names, from, to))
+}
+
+// ---- A field that a name's bytes hint at
+
+// The place among the hints of a name with these first, fifth and ninth bytes. Two names of one of document 002's
+// tables that differ in these bytes have two places.
+fn hint_of(a: u8, b: u8, c: u8) -> usize
+    ensures { λ r. ⌜ r ≡ hintOf a b c ⌝ }
+{
+    (a as usize * 2 + b as usize * 3 + c as usize) % 256
+}
+
+// The field that the name whose opening quote stands at `at` is likely to be; 255, which is no field's number,
+// where the file ends before a ninth byte. A hint may be wrong, so the field is tried by its bytes.
+pub fn hint_at(s: &[u8], at: usize, hints: &[u8]) -> usize
+    ensures { λ r. ⌜ r ≡ hintAt (now (s .entry)) at (now (hints .entry)) ⌝ }
+{
+    if s.len() < 10 {
+        return 255;
+    }
+    if s.len() - 10 < at {
+        return 255;
+    }
+    let place = hint_of(s[at + 1], s[at + 5], s[at + 9]);
+    if hints.len() <= place {
+        return 255;
+    }
+    hints[place] as usize
+}
+
+// Field k's number at the place of its name. A name of fewer than nine bytes has none.
+fn put_hint(rows: &[u32], names: &[u8], k: usize, hints: &mut [u8])
+    ensures { λ _. ⌜ now (hints .exit) ≡ withHint (now (rows .entry)) (now (names .entry)) k (now (hints .entry)) ⌝ }
+{
+    let from = name_start(rows, k);
+    let to = name_end(rows, k);
+    let word = part(names, from, to);
+    if word.len() < 9 {
+        return;
+    }
+    let place = hint_of(word[0], word[4], word[8]);
+    if hints.len() <= place {
+        return;
+    }
+    hints[place] = (k % 256) as u8;
+}
+
+// The hints of a table's `count` fields. Of two names with one place the later has it; the other is found by
+// its whole name.
+pub fn fill_hints(rows: &[u32], names: &[u8], count: usize, hints: &mut [u8])
+    ensures { λ _. ⌜ now (hints .exit) ≡ hintsOf (now (rows .entry)) (now (names .entry)) count (now (hints .entry)) ⌝ }
+{
+    let mut k = 0;
+    while k < count {
+        put_hint(rows, names, k, hints);
+        k += 1;
+    }
 }
 
 // ---- What stands around the values

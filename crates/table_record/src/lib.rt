@@ -15,6 +15,7 @@ use table_name::Next;
 use table_name::colon_at;
 use table_name::first_in;
 use table_name::guess_end;
+use table_name::hint_at;
 use table_name::name_at;
 use table_name::next_after;
 use table_rows::field_type;
@@ -58,25 +59,32 @@ struct Paired {
 }
 
 // The name at `at`: which field it is, or its fault. Records mostly list their fields in the table's
-// order, so one field is tried first by its bytes; where the table's names are told apart so, that one
-// is the answer.
+// order, so one field is tried first by its bytes, and then the one that the hints point to; where the
+// table's names are told apart so, a field whose name stands there is the answer.
 fn named_at(
     s: &[u8],
     at: usize,
     rows: &[u32],
     names: &[u8],
     count: usize,
-    apart: bool,
+    hints: &[u8],
     guess: usize,
 ) -> NameRead
-    requires { ⌜ (apart ≡ true → namesApart (now rows) (now names) count ≡ true) ⌝ }
+    requires { ⌜ (0 < length (now hints) → namesApart (now rows) (now names) count ≡ true) ⌝ }
     ensures { λ r. ⌜ r ≡ nameAt (fieldsFrom (now (rows .entry)) (now (names .entry)) count 0) (now (s .entry)) at ⌝ }
 {
-    if apart {
+    if 0 < hints.len() {
         if guess < count {
             let end = guess_end(s, at, rows, names, guess);
             if 0 < end {
                 return NameRead::Known { index: guess, end };
+            }
+        }
+        let hint = hint_at(s, at, hints);
+        if hint < count {
+            let end = guess_end(s, at, rows, names, hint);
+            if 0 < end {
+                return NameRead::Known { index: hint, end };
             }
         }
     }
@@ -90,16 +98,16 @@ fn pair_at(
     rows: &[u32],
     names: &[u8],
     count: usize,
-    apart: bool,
+    hints: &[u8],
     guess: usize,
     cells: &mut [u32],
     base: usize,
 ) -> Paired
     requires { ⌜ (length (now s) < 2 ^ 32) × ((at ≤ length (now s)) × (base + 2 * count ≤ length (now cells))) ⌝ }
-    requires { ⌜ (apart ≡ true → namesApart (now rows) (now names) count ≡ true) ⌝ }
+    requires { ⌜ (0 < length (now hints) → namesApart (now rows) (now names) count ≡ true) ⌝ }
     ensures { λ r. ⌜ cellsFilled (now (cells .exit)) (r .reading) ≡ pairAt (fieldsFrom (now (rows .entry)) (now (names .entry)) count 0) (now (s .entry)) at (now (cells .entry)) base ⌝ }
 {
-    match named_at(s, at, rows, names, count, apart, guess) {
+    match named_at(s, at, rows, names, count, hints, guess) {
         NameRead::Known { index, end } => {
             if 0 < cells[base + 2 * index] {
                 return Paired {
@@ -182,18 +190,18 @@ fn read_pairs(
     rows: &[u32],
     names: &[u8],
     count: usize,
-    apart: bool,
+    hints: &[u8],
     cells: &mut [u32],
     base: usize,
 ) -> Reading
     requires { ⌜ (length (now s) < 2 ^ 32) × (((0 < from) × (from ≤ length (now s))) × (base + 2 * count ≤ length (now cells))) ⌝ }
-    requires { ⌜ (apart ≡ true → namesApart (now rows) (now names) count ≡ true) ⌝ }
+    requires { ⌜ (0 < length (now hints) → namesApart (now rows) (now names) count ≡ true) ⌝ }
     ensures { λ r. ⌜ cellsFilled (now (cells .exit)) r ≡ pairsFrom (length (now (s .entry))) (fieldsFrom (now (rows .entry)) (now (names .entry)) count 0) (now (s .entry)) from (now (cells .entry)) base ⌝ }
 {
     let mut at = from;
     let mut guess = 0;
     loop {
-        let pair = pair_at(s, at, rows, names, count, apart, guess, cells, base);
+        let pair = pair_at(s, at, rows, names, count, hints, guess, cells, base);
         let reading = pair.reading;
         match reading {
             Reading::Whole { end } => match next_after(s, end, b'}') {
@@ -247,19 +255,19 @@ fn has_room(s: &[u8], cells: &[u32], base: usize, count: usize) -> bool
 }
 
 // The record whose opening brace stands at `at`, with the `count` fields that rows and names
-// describe; its cells start at base. Where `apart` is true the names are told apart by their bytes: a
-// caller finds that out once for all records of a table.
+// describe; its cells start at base. Where there are hints the names are told apart by their bytes: a
+// caller finds that out once for all records of a table. Without any, no name is guessed.
 pub fn read_record(
     s: &[u8],
     at: usize,
     rows: &[u32],
     names: &[u8],
     count: usize,
-    apart: bool,
+    hints: &[u8],
     cells: &mut [u32],
     base: usize,
 ) -> Reading
-    requires { ⌜ (apart ≡ true → namesApart (now rows) (now names) count ≡ true) ⌝ }
+    requires { ⌜ (0 < length (now hints) → namesApart (now rows) (now names) count ≡ true) ⌝ }
     ensures { λ r. ⌜ r ≡ recordAt (fieldsFrom (now (rows .entry)) (now (names .entry)) count 0) (now (s .entry)) at (now (cells .entry)) base .outcome ⌝ }
     ensures { λ _. ⌜ now (cells .exit) ≡ recordAt (fieldsFrom (now (rows .entry)) (now (names .entry)) count 0) (now (s .entry)) at (now (cells .entry)) base .cells ⌝ }
 {
@@ -271,7 +279,7 @@ pub fn read_record(
     }
     clear(cells, base, 2 * count);
     match first_in(s, at, b'}') {
-        Next::More { at: first } => read_pairs(s, first, rows, names, count, apart, cells, base),
+        Next::More { at: first } => read_pairs(s, first, rows, names, count, hints, cells, base),
         Next::Ends { at: last } => close_at(last, rows, names, count, cells, base),
         Next::Neither { at: place } => Reading::Fault { kind: 11, place },
     }

@@ -1,6 +1,5 @@
 -- `table_file::read_array` meets its contract: what stands behind the opening bracket decides; anything but an array is judged.
 use borrow.Author.Needs.{needs}
-use mathlib.Core.Path.{sym, _∙_}
 use native.Mathlib.Omega.{arith}
 use Rattle.json_bytes.specs.Reads.{within}
 use Rattle.table_file.specs.Table.{namesRecord, companionOf}
@@ -26,13 +25,10 @@ first-in-requires c κs = search needs
 enum-known-first : tie.Need-enum-known-first
 enum-known-first c = search needs
 
-names-apart-requires : tie.Need-names-apart-requires
-names-apart-requires c κs = search needs
-
-read-elements-requires : tie.Need-read-elements-requires
-read-elements-requires c κs =
-    let b = c .before .before .before in
-    (omega (arith, first-more _ _ _ (b .before .before .first-in .ensures) _ (b .first .given .1)), λ e. sym (c .before .names-apart .ensures) ∙ e)
+read-hinted-requires : tie.Need-read-hinted-requires
+read-hinted-requires c κs =
+    let b = c .before .before in
+    omega (arith, first-more _ _ _ (b .before .before .first-in .ensures) _ (b .first .given .1))
 
 enum-known-last : tie.Need-enum-known-last
 enum-known-last c = search needs
@@ -51,8 +47,8 @@ same-length c = search needs
 
 returns-2 : tie.Need-returns-2
 returns-2 c =
-    let b = c .before .before .before .before .before .before in
-    array-more _ _ _ _ _ (b .before .before .before .before .byte-at .ensures) (b .before .before .before .if1 .left) _ (b .before .before .first-in .ensures) _ _ (b .first .given .1) (c .before .before .read-elements .ensures)
+    let b = c .before .before .before .before .before in
+    array-more _ _ _ _ _ (b .before .before .before .before .byte-at .ensures) (b .before .before .before .if1 .left) _ (b .before .before .first-in .ensures) _ _ (b .first .given .1) (c .before .before .read-hinted .ensures)
 
 returns-3 : tie.Need-returns-3
 returns-3 c = array-ends _ _ _ _ _ (c .before .before .before .before .before .before .byte-at .ensures) (c .before .before .before .before .before .if1 .left) _ (c .before .before .before .before .first-in .ensures) _ _ (c .before .before .last .given .1) (c .end-of-file .ensures)
@@ -71,8 +67,7 @@ read-array-spec =
     returns
     first-in-requires
     enum-known-first
-    names-apart-requires
-    read-elements-requires
+    read-hinted-requires
     enum-known-last
     add-end-of-file
     end-of-file-requires

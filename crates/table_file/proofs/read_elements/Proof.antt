@@ -12,16 +12,16 @@ use Rattle.table_file.proofs.read_elements.Statement.{statement}
 use Rattle.table_file.proofs.read_elements.Tie as tie
 
 abbrev Inv-loop : tie.InvT-loop
-Inv-loop s from rows names count apart cells₀ at₀ r₀ cells at r = (length cells ≡ length cells₀) × Left (fieldsFrom rows names count 0) s (elementsFrom (length s) (fieldsFrom rows names count 0) s from cells₀ 0) cells at r
+Inv-loop s from rows names count hints cells₀ at₀ r₀ cells at r = (length cells ≡ length cells₀) × Left (fieldsFrom rows names count 0) s (elementsFrom (length s) (fieldsFrom rows names count 0) s from cells₀ 0) cells at r
 
 abbrev μ-loop : tie.MeasureT-loop
-μ-loop s from rows names count apart cells₀ at₀ r₀ cells at r = length s - at
+μ-loop s from rows names count hints cells₀ at₀ r₀ cells at r = length s - at
 
 loop-holds : tie.Need-loop-holds Inv-loop μ-loop
-loop-holds c = (refl, left-all _ _ _ _ (c .before .before .before .before .pre .0 .0) (c .before .before .before .before .pre .0 .1))
+loop-holds c = (refl, left-all _ _ _ _ (c .before .before .before .before .before .pre .0 .0) (c .before .before .before .before .before .pre .0 .1))
 
 element-at-requires : tie.Need-element-at-requires Inv-loop μ-loop
-element-at-requires c κs = c .before .before .before .before .before .before .pre .1
+element-at-requires c κs = c .before .before .before .before .before .before .before .pre .1
 
 enum-known-end : tie.Need-enum-known-end Inv-loop μ-loop
 enum-known-end c = search needs

@@ -1,4 +1,5 @@
 -- `table_file::read_single` meets its contract: an object is read as a record, and anything else is judged.
+use native.Mathlib.Nat.{not-suc-le-zero}
 use borrow.Author.Needs.{needs}
 use Rattle.table_file.proofs.Laws.{single-object, single-other}
 use Rattle.table_file.proofs.read_single.Statement.{statement}
@@ -7,8 +8,11 @@ use Rattle.table_file.proofs.read_single.Tie as tie
 byte-at-requires : tie.Need-byte-at-requires
 byte-at-requires c κs = search needs
 
+slice-aggregate-read-record : tie.Need-slice-aggregate-read-record
+slice-aggregate-read-record c = search needs
+
 read-record-requires : tie.Need-read-record-requires
-read-record-requires c κs = λ e. cc
+read-record-requires c κs = λ e. absurd (not-suc-le-zero e)
 
 single-of-requires : tie.Need-single-of-requires
 single-of-requires c κs = search needs
@@ -17,7 +21,7 @@ same-length : tie.Need-same-length
 same-length c = search needs
 
 returns : tie.Need-returns
-returns c = single-object _ _ _ _ _ (c .before .before .before .before .before .before .byte-at .ensures) _ _ (c .single-of .ensures) (c .before .before .before .before .before .if1 .taken) _ (c .before .before .before .read-record .ensures .0) (c .before .before .before .read-record .ensures .1)
+returns c = single-object _ _ _ _ _ (c .before .before .before .before .before .before .before .byte-at .ensures) _ _ (c .single-of .ensures) (c .before .before .before .before .before .before .if1 .taken) _ (c .before .before .before .read-record .ensures .0) (c .before .before .before .read-record .ensures .1)
 
 not-object-at-requires : tie.Need-not-object-at-requires
 not-object-at-requires c κs = search needs
@@ -33,6 +37,7 @@ read-single-spec =
     tie.close
     (tie.spec
     byte-at-requires
+    slice-aggregate-read-record
     read-record-requires
     single-of-requires
     same-length

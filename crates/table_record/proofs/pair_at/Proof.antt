@@ -12,29 +12,29 @@ use Rattle.table_record.proofs.pair_at.Statement.{statement}
 use Rattle.table_record.proofs.pair_at.Tie as tie
 
 named-at-requires : tie.Need-named-at-requires
-named-at-requires c κs = c .before .before .before .before .pre .1
+named-at-requires c κs = c .before .before .before .before .before .pre .1
 
 enum-known-index : tie.Need-enum-known-index
 enum-known-index c = search needs
 
 -- a name that is known is one of the fields', and ends within the file
-known : (c : tie.After-known-told) → (c .before .index .given .0 .0 < c .before .before .before .before .before .before .before .before .args .count) × (c .before .index .given .0 .1 .0 ≤ length (now (c .before .before .before .before .before .before .before .before .args .s)))
+known : (c : tie.After-known-told) → (c .before .index .given .0 .0 < c .before .before .before .before .before .before .before .before .before .args .count) × (c .before .index .given .0 .1 .0 ≤ length (now (c .before .before .before .before .before .before .before .before .before .args .s)))
 known c =
-    let a = c .before .before .before .before .before .before .before .before .args in
-    let h = rw (c .before .index .given .1) at (name-told _ _ _ _ (c .before .before .before .named-at .ensures) (c .before .before .before .before .before .before .before .before .pre .0 .1 .0)) in
+    let a = c .before .before .before .before .before .before .before .before .before .args in
+    let h = rw (c .before .index .given .1) at (name-told _ _ _ _ (c .before .before .before .named-at .ensures) (c .before .before .before .before .before .before .before .before .before .pre .0 .1 .0)) in
     (omega (arith, h .0, fields-length (now (a .rows)) (now (a .names)) (a .count) 0), h .1 .1)
 
 mul-if1 : tie.Need-mul-if1
-mul-if1 c = omega (arith, known c, c .before .before .before .before .before .before .before .before .pre .0)
+mul-if1 c = omega (arith, known c, c .before .before .before .before .before .before .before .before .before .pre .0)
 
 add-if1 : tie.Need-add-if1
-add-if1 c = omega (arith, known c, c .before .before .before .before .before .before .before .before .pre .0)
+add-if1 c = omega (arith, known c, c .before .before .before .before .before .before .before .before .before .pre .0)
 
 mul-if1-2 : tie.Need-mul-if1-2
-mul-if1-2 c = omega (arith, known c, c .before .before .before .before .before .before .before .before .pre .0)
+mul-if1-2 c = omega (arith, known c, c .before .before .before .before .before .before .before .before .before .pre .0)
 
 slice-read-if1 : tie.Need-slice-read-if1
-slice-read-if1 c = omega (arith, known (c .before), c .before .before .before .before .before .before .before .before .before .pre .0)
+slice-read-if1 c = omega (arith, known (c .before), c .before .before .before .before .before .before .before .before .before .before .pre .0)
 
 returns : tie.Need-returns
 unfolding startCell
@@ -54,12 +54,12 @@ field-type-requires c κs = search needs
 store-value-requires : tie.Need-store-value-requires
 store-value-requires c κs =
     let b = c .before .before .before in
-    omega (arith, known (b .before .before .before .before .before), (rw (b .start .given .1) at (colon-told _ _ _ (b .before .before .colon-at .ensures) (known (b .before .before .before .before .before) .1))), b .before .before .before .before .before .before .before .before .before .before .before .before .before .pre .0)
+    omega (arith, known (b .before .before .before .before .before), (rw (b .start .given .1) at (colon-told _ _ _ (b .before .before .colon-at .ensures) (known (b .before .before .before .before .before) .1))), b .before .before .before .before .before .before .before .before .before .before .before .before .before .before .pre .0)
 
 add-t32 : tie.Need-add-t32
 add-t32 c =
     let b = c .before .before .before .before .before .before .before .before .before .before .before in
-    omega (arith, known b, b .before .before .before .before .before .before .before .before .pre .0)
+    omega (arith, known b, b .before .before .before .before .before .before .before .before .before .pre .0)
 
 enum-known-kind : tie.Need-enum-known-kind
 enum-known-kind c = search needs

@@ -20,7 +20,7 @@ returns : tie.Need-returns
 returns c = both _ _ (record-none _ _ _ _ _ _ _ _ (c .before .has-room .ensures) (not-true _ (c .if1 .taken)))
 
 -- what room is, at every place behind its test
-room : (c : tie.Else1) → (length (now (c .before .before .before .before .before .before .before .args .s)) < 2 ^ 32) × ((c .before .before .before .before .before .before .before .args .count ≤ 64) × (c .before .before .before .before .before .before .before .args .base + 2 * c .before .before .before .before .before .before .before .args .count ≤ length (now (c .before .before .before .before .before .before .before .args .cells))))
+room : (c : tie.Else1) → (length (now (c .before .before .before .before .before .before .before .before .args .s)) < 2 ^ 32) × ((c .before .before .before .before .before .before .before .before .args .count ≤ 64) × (c .before .before .before .before .before .before .before .before .args .base + 2 * c .before .before .before .before .before .before .before .before .args .count ≤ length (now (c .before .before .before .before .before .before .before .before .args .cells))))
 room c = room-all _ _ _ _ (sym (c .before .has-room .ensures) ∙ not-false _ (c .if1 .left))
 
 mul-clear : tie.Need-mul-clear
@@ -38,7 +38,7 @@ enum-known-first c = search needs
 read-pairs-requires : tie.Need-read-pairs-requires
 read-pairs-requires c κs =
     let b = c .before .before .before .before in
-    (omega (arith, room (b .before .before .before .before .before), b .before .before .before .clear .kept .0, first-more _ _ _ (b .first-in .ensures) _ (c .before .before .first .given .1)), b .before .before .before .before .before .before .before .before .before .before .before .before .pre)
+    (omega (arith, room (b .before .before .before .before .before), b .before .before .before .clear .kept .0, first-more _ _ _ (b .first-in .ensures) _ (c .before .before .first .given .1)), b .before .before .before .before .before .before .before .before .before .before .before .before .before .pre)
 
 enum-known-last : tie.Need-enum-known-last
 enum-known-last c = search needs

@@ -1,8 +1,9 @@
 //! Names: written in many ways, misspelt, of other tables, and twice.
 
-use super::draft::{quoted, unclosed, Draft};
+use super::draft::{closing, quoted, unclosed, Draft};
 use super::values::{good_value, may_be_empty};
 use super::{joined, tables, Cases};
+use crate::compare::gate::styles::shuffle;
 use crate::fields::{fields_of, Field, FIELDS};
 
 pub(super) fn add(cases: &mut Cases) {
@@ -15,6 +16,7 @@ pub(super) fn add(cases: &mut Cases) {
     }
     for table in tables() {
         add_in_order(cases, table);
+        add_out_of_order(cases, table);
         add_names_of_other_tables(cases, table);
         add_odd_names(cases, table);
         add_joined_names(cases, table);
@@ -219,6 +221,66 @@ fn add_in_order(cases: &mut Cases, table: usize) {
     let mut reversed = full;
     reversed.members.reverse();
     cases.somewhere(table, &reversed);
+}
+
+// ----------------------------------------------------------- out of order
+
+/// Every field, in reverse and in random orders.
+fn add_out_of_order(cases: &mut Cases, table: usize) {
+    let mut reversed = Draft::full(table, 1);
+    reversed.members.reverse();
+    add_changed_names(cases, table, &reversed);
+    for number in 2..4 {
+        let mut shuffled = Draft::full(table, number);
+        shuffle(&mut shuffled.members, &mut cases.random);
+        cases.somewhere(table, &shuffled);
+        add_changed_names(cases, table, &shuffled);
+    }
+}
+
+/// A name out of order may be guessed by its first, fifth and ninth letters. One
+/// of these is wrong, or the last one; or only these are right; or the file ends
+/// at the name or a little behind it.
+fn add_changed_names(cases: &mut Cases, table: usize, draft: &Draft) {
+    for (place, member) in draft.members.iter().enumerate() {
+        let letters = 1..member.name.len() - 1;
+        for at in [1, 5, 9, letters.end - 1].into_iter().filter(|at| letters.contains(at)) {
+            let mut name = member.name.clone();
+            name[at] ^= 1;
+            cases.somewhere(table, &draft.with_name(place, &name));
+        }
+        for name in guessed_alike(&member.name) {
+            cases.somewhere(table, &draft.with_name(place, &name));
+        }
+        let mut front = draft.clone();
+        front.members.truncate(place);
+        let comma: &[u8] = if place == 0 { b"" } else { b"," };
+        let whole = joined(&[&member.name, b":", &member.value, closing(table)]);
+        for length in 1..whole.len().min(member.name.len() + 16) {
+            let end = &whole[..length];
+            cases.file(table, &joined(&[&unclosed(table, &front), comma, end]));
+        }
+    }
+}
+
+/// Quoted names with the first, fifth and ninth letters of this one and others
+/// between them, as long as it, no longer than needed, and longer than it; and
+/// one in which these letters are others with the same sum of twice the first,
+/// three times the fifth and the ninth.
+fn guessed_alike(name: &[u8]) -> Vec<Vec<u8>> {
+    if name.len() < 11 {
+        return Vec::new();
+    }
+    let mut other = name.to_vec();
+    for at in (1..name.len() - 1).filter(|at| ![1, 5, 9].contains(at)) {
+        other[at] = b'x';
+    }
+    let mut same_sum = name.to_vec();
+    same_sum[1] += 1;
+    same_sum[9] -= 2;
+    let short = joined(&[&name[..10], b"\""]);
+    let long = joined(&[&name[..name.len() - 1], b"x\""]);
+    vec![other, short, long, same_sum]
 }
 
 // ------------------------------------------------------------ other names
