@@ -19,8 +19,8 @@ fn wrapping_mul_u32(a: u32, b: u32) -> u32
     ((a as u64) * (b as u64) % 4294967296) as u32
 }
 
-// The sum with one character more.
-fn sum_with(sum: u32, c: u32) -> u32
+// The sum with one character more, or with another sum.
+pub fn sum_with(sum: u32, c: u32) -> u32
     ensures { λ r. ⌜ r ≡ sumWith sum c ⌝ }
 {
     std::num::wrapping_add_u32(wrapping_mul_u32(31, sum), c)

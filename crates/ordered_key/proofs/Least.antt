@@ -1,4 +1,4 @@
--- The lesser of records, and one turn of the walk along a list.
+-- The lesser of records, what a record repeats, and one turn of the walk along a list.
 -- Assumes nothing.
 use Prim.Native.Nat.{ℕ, zero, suc, _+_, _≤_, _<_}
 use mathlib.Core.Path.{_≡_, refl, sym, ap, _∙_}
@@ -6,11 +6,14 @@ use mathlib.Core.Bool.{Bool, true, false, cond}
 use mathlib.Core.List.{List, [], _∷_}
 use native.Mathlib.Numerals.{add-one}
 use native.Mathlib.Omega.{arith}
-use borrow.Author.Tests.{lt-ltb, le-ltb, ltb-true, ltb-false}
+use borrow.Author.Tests.{lt-ltb, le-ltb, eq-eqb, ne-eqb, ltb-true, ltb-false}
 use lib.ListN.{length, drop, getD, drop-of-length-le}
 use lib.Seq.{drop-cons}
 use lib.Dec.{ltb}
-use Rattle.ordered_key.specs.Repeat.{lesser, repeatOf, leastRepeat}
+use Rattle.rule_cells.specs.Cells.{Table}
+use Rattle.rule_key.specs.declared.Key.{Key}
+use Rattle.rule_key.specs.Key.{sameKey}
+use Rattle.ordered_key.specs.Repeat.{sameSumAndKey, lesser, repeatOf, leastRepeat}
 
 -- ---- the lesser of two
 pub none-lesser : (a b : ℕ) → a ≡ 0 → b ≡ lesser a b
@@ -52,6 +55,21 @@ lesser-assoc (suc a) (suc b) (suc c) = go (ltb a b) refl (ltb b c) refl (ltb a c
     go false p true q v w = rw (p, q)
     go false p false q true w = absurd (omega (arith, ltb-false a b p, ltb-false b c q, ltb-true a c w))
     go false p false q false w = rw (q, w)
+
+-- ---- whether a record repeats another, by the tests of their sums and then their keys
+module _ (t : Table) (key : Key) (sums : List ℕ) (p r x y : ℕ) (first : x ≡ getD sums p 0) (second : y ≡ getD sums r 0) where
+  pub other-sum : (x ≡ y → ⊥) → 0 ≡ repeatOf (sameSumAndKey t key sums) p r
+  unfolding repeatOf sameSumAndKey
+  other-sum e = rw (← first, ← second, ne-eqb x y e)
+
+  module _ (one : x ≡ y) (same : Bool) (is : same ≡ sameKey t key p r) where
+    pub same-both : same ≡ true → r + 1 ≡ repeatOf (sameSumAndKey t key sums) p r
+    unfolding repeatOf sameSumAndKey
+    same-both e = rw (← first, ← second, eq-eqb x y one, ← is, e) (add-one r)
+
+    pub other-key : same ≡ false → 0 ≡ repeatOf (sameSumAndKey t key sums) p r
+    unfolding repeatOf sameSumAndKey
+    other-key e = rw (← first, ← second, eq-eqb x y one, ← is, e)
 
 -- ---- the walk: what is left of the list at place i
 module _ (same : ℕ → ℕ → Bool) (l : List ℕ) (least i : ℕ) where

@@ -159,14 +159,14 @@ module _ (same le : ℕ → ℕ → Bool) (n : ℕ) (l : List ℕ) (s : SideBySi
           behind false m = apart (omega (arith, ltb-false (getD l (b .place) 0) r f, ltb-false r (getD l (b .place) 0) m))
 
   -- ---- so the first record with an earlier one's key is the least that has its neighbour's
-  module _ (breaks : ℕ → Bool) (breaks-if : (j r : ℕ) → j < r → same j r ≡ true → breaks r ≡ true) (only-if : (r : ℕ) → breaks r ≡ true → (j : ℕ) × ((j < r) × (same j r ≡ true))) where
+  module _ (breaks : ℕ → Bool) (breaks-if : (j r : ℕ) → j < r → same j r ≡ true → breaks r ≡ true) (only-if : (r : ℕ) → r < n → breaks r ≡ true → (j : ℕ) × ((j < r) × (same j r ≡ true))) where
     none-less : (r : ℕ) → r < n → (leastRepeat same l ≤ suc r → 0 < leastRepeat same l → ⊥) → breaks r ≡ false
     none-less r h no-less = go (breaks r) refl
       where
         go : (t : Bool) → breaks r ≡ t → t ≡ false
         go false e = refl
         go true e =
-            let w : (j : ℕ) × ((j < r) × (same j r ≡ true)) = only-if r e in
+            let w : (j : ℕ) × ((j < r) × (same j r ≡ true)) = only-if r h e in
             let u : UpTo (suc r) (leastRepeat same l) = least-below same l r (beside (w .0) r (w .1 .0) h (w .1 .1)) in
             absurd (no-less (u .1) (u .0))
 

@@ -1,14 +1,22 @@
 // The rule "primary key" judged through an order of the records: equal keys stand beside each other in
-// it, so that each record is compared with one other. Records whose keys ascend are in order already.
+// it, so that each record is compared with one other. It is an order by sums first, made of each ID that
+// a key starts with: keys of different sums are not compared. Records whose keys ascend are in order
+// already.
 ghost use mathlib.Core.Path.{_≡_};
 ghost use Prim.Native.Nat.{_+_, _<_};
+ghost use lib.ListN.{length};
 ghost use Rattle.rule_cells.specs.Cells.{table};
 ghost use Rattle.rule_key.specs.Key.{sameKey, keyRule};
 ghost use Rattle.key_order.specs.Order.{keyOrder};
-ghost use Rattle.ordered_key.specs.Repeat.{lesser, repeatOf, leastRepeat, breakAt};
+ghost use Rattle.ordered_key.specs.Sums.{keySumOf, keySums};
+ghost use Rattle.ordered_key.specs.Repeat.{sameSumAndKey, lesser, repeatOf, leastRepeat, breakAt};
 ghost use Rattle.ordered_key.specs.Ascending.{ascending};
 use key_order::compare_keys;
-use key_order::key_order;
+use key_order::order_by_sums;
+use key_order::sum_at;
+use key_sum::key_sum;
+use key_sum::sum_with;
+use rule_cells::start_of;
 use rule_key::Key;
 use rule_key::KeyBreak;
 use rule_key::earliest_same;
@@ -32,10 +40,14 @@ fn lesser(a: usize, b: usize) -> usize
     b
 }
 
-// Record r, counted from 1, if it has the key of record p; 0 if not.
-fn repeat_of(s: &[u8], cells: &[u32], width: usize, key: Key, p: u32, r: u32) -> usize
-    ensures { λ x. ⌜ x ≡ repeatOf (sameKey (table (now (s .entry)) (now (cells .entry)) width 0) key) p r ⌝ }
+// Record r, counted from 1, if it has the sum and the key of record p; 0 if not. The sums decide first,
+// so that keys are compared only where their sums are equal.
+fn repeat_of(s: &[u8], cells: &[u32], width: usize, key: Key, sums: &[u32], p: u32, r: u32) -> usize
+    ensures { λ x. ⌜ x ≡ repeatOf (sameSumAndKey (table (now (s .entry)) (now (cells .entry)) width 0) key (now (sums .entry))) p r ⌝ }
 {
+    if sum_at(sums, p) != sum_at(sums, r) {
+        return 0;
+    }
     let record = r as usize;
     if same_key(s, cells, width, key, p as usize, record) {
         return record + 1;
@@ -43,15 +55,22 @@ fn repeat_of(s: &[u8], cells: &[u32], width: usize, key: Key, p: u32, r: u32) ->
     0
 }
 
-// Of the records in a list, the least that has the key of the one just before it, counted from 1; 0
-// for none.
-fn first_repeat(s: &[u8], cells: &[u32], width: usize, key: Key, order: &[u32]) -> usize
-    ensures { λ x. ⌜ x ≡ leastRepeat (sameKey (table (now (s .entry)) (now (cells .entry)) width 0) key) (now (order .entry)) ⌝ }
+// Of the records in a list, the least that has the sum and the key of the one just before it, counted
+// from 1; 0 for none.
+fn first_repeat(
+    s: &[u8],
+    cells: &[u32],
+    width: usize,
+    key: Key,
+    sums: &[u32],
+    order: &[u32],
+) -> usize
+    ensures { λ x. ⌜ x ≡ leastRepeat (sameSumAndKey (table (now (s .entry)) (now (cells .entry)) width 0) key (now (sums .entry))) (now (order .entry)) ⌝ }
 {
     let mut least = 0;
     let mut i = 0;
     while i + 1 < order.len() {
-        let found = repeat_of(s, cells, width, key, order[i], order[i + 1]);
+        let found = repeat_of(s, cells, width, key, sums, order[i], order[i + 1]);
         least = lesser(least, found);
         i += 1;
     }
@@ -60,10 +79,17 @@ fn first_repeat(s: &[u8], cells: &[u32], width: usize, key: Key, order: &[u32]) 
 
 // What the rule answers, read from an order of the records: only for the record that breaks it is the
 // earliest with its key searched.
-fn order_break(s: &[u8], cells: &[u32], width: usize, key: Key, order: &[u32]) -> KeyBreak
-    ensures { λ x. ⌜ x ≡ breakAt (table (now (s .entry)) (now (cells .entry)) width 0) key (leastRepeat (sameKey (table (now (s .entry)) (now (cells .entry)) width 0) key) (now (order .entry))) ⌝ }
+fn order_break(
+    s: &[u8],
+    cells: &[u32],
+    width: usize,
+    key: Key,
+    sums: &[u32],
+    order: &[u32],
+) -> KeyBreak
+    ensures { λ x. ⌜ x ≡ breakAt (table (now (s .entry)) (now (cells .entry)) width 0) key (leastRepeat (sameSumAndKey (table (now (s .entry)) (now (cells .entry)) width 0) key (now (sums .entry))) (now (order .entry))) ⌝ }
 {
-    let first = first_repeat(s, cells, width, key, order);
+    let first = first_repeat(s, cells, width, key, sums, order);
     if first == 0 {
         return KeyBreak { record: 0, same: 0 };
     }
@@ -94,6 +120,29 @@ fn is_ascending(s: &[u8], cells: &[u32], width: usize, records: usize, key: Key)
     true
 }
 
+// The sum of record i's key: of its first field, and where the second is an ID too of both. In a table
+// whose records share the first ID, as the assignments of one resource do, few then have one sum.
+fn key_sum_of(s: &[u8], cells: &[u32], width: usize, key: Key, i: usize) -> u32
+    ensures { λ r. ⌜ r ≡ keySumOf (table (now (s .entry)) (now (cells .entry)) width 0) key i ⌝ }
+{
+    let first = key_sum(s, start_of(cells, width, i, key.a));
+    if key.b_kind == 1 {
+        return sum_with(first, key_sum(s, start_of(cells, width, i, key.b)));
+    }
+    first
+}
+
+// Puts down the sum of each record's key.
+fn fill_key_sums(s: &[u8], cells: &[u32], width: usize, key: Key, sums: &mut [u32])
+    ensures { λ _. ⌜ now (sums .exit) ≡ keySums (table (now (s .entry)) (now (cells .entry)) width 0) key (length (now (sums .entry))) ⌝ }
+{
+    let mut i = 0;
+    while i < sums.len() {
+        sums[i] = key_sum_of(s, cells, width, key, i);
+        i += 1;
+    }
+}
+
 // The first record whose key equals an earlier one's, through an order of the records in the lent
 // lists. Many tables come with their keys ascending: then no key is there twice, and nothing is put in
 // order. Where the lists are not as long as there are records, or the key's first field is no ID, every
@@ -119,8 +168,9 @@ pub fn key_rule_in(
     if order.len() != records {
         return key_rule(s, cells, width, records, key);
     }
-    if key_order(s, cells, width, key, sums, order, scratch) {
-        return order_break(s, cells, width, key, order);
+    fill_key_sums(s, cells, width, key, sums);
+    if order_by_sums(s, cells, width, key, sums, order, scratch) {
+        return order_break(s, cells, width, key, sums, order);
     }
     key_rule(s, cells, width, records, key)
 }

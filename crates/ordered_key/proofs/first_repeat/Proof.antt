@@ -4,16 +4,16 @@ use native.Mathlib.Omega.{arith}
 use lib.ListN.{length}
 use borrow.Author.Needs.{needs}
 use Rattle.rule_cells.specs.Cells.{table}
-use Rattle.rule_key.specs.Key.{sameKey}
+use Rattle.ordered_key.specs.Repeat.{sameSumAndKey}
 use Rattle.ordered_key.proofs.Least.{Walked, walk-starts, walk-goes-on, walk-ends}
 use Rattle.ordered_key.proofs.first_repeat.Statement.{statement}
 use Rattle.ordered_key.proofs.first_repeat.Tie as tie
 
 abbrev Inv-loop : tie.InvT-loop
-Inv-loop s cells width key order least₀ i₀ least i = (i ≤ length order) × Walked (sameKey (table s cells width 0) key) order least i
+Inv-loop s cells width key sums order least₀ i₀ least i = (i ≤ length order) × Walked (sameSumAndKey (table s cells width 0) key sums) order least i
 
 abbrev μ-loop : tie.MeasureT-loop
-μ-loop s cells width key order least₀ i₀ least i = length order - i
+μ-loop s cells width key sums order least₀ i₀ least i = length order - i
 
 loop-holds : tie.Need-loop-holds Inv-loop μ-loop
 loop-holds c = (omega arith, walk-starts _ _)

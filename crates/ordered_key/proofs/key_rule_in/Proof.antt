@@ -1,5 +1,5 @@
--- `ordered_key::key_rule_in` meets its contract: keys that ascend break nothing, and where the lists are fit the order of keys
--- gives the rule's answer.
+-- `ordered_key::key_rule_in` meets its contract: keys that ascend break nothing, and where the lists are fit the order by sums
+-- and keys gives the rule's answer.
 use borrow.Author.Needs.{needs}
 use Rattle.ordered_key.proofs.Rule.{filled-gives-rule}
 use Rattle.ordered_key.proofs.Ascending.{ascending-gives-rule}
@@ -24,8 +24,11 @@ key-rule-requires-2 c κs = search needs
 returns-3 : tie.Need-returns-3
 returns-3 c = search needs
 
-key-order-requires : tie.Need-key-order-requires
-key-order-requires c κs = search needs
+fill-key-sums-requires : tie.Need-fill-key-sums-requires
+fill-key-sums-requires c κs = search needs
+
+order-by-sums-requires : tie.Need-order-by-sums-requires
+order-by-sums-requires c κs = search needs
 
 order-break-requires : tie.Need-order-break-requires
 order-break-requires c κs = search needs
@@ -40,7 +43,7 @@ same-length-3 : tie.Need-same-length-3
 same-length-3 c = search needs
 
 returns-4 : tie.Need-returns-4
-returns-4 c = filled-gives-rule _ _ _ _ _ _ _ _ _ _ _ (c .before .before .before .before .before .before .before .before .before .before .before .before .before .before .if2 .left) (c .before .before .before .before .before .before .before .before .before .before .before .before .before .if3 .left) (c .before .before .before .before .before .before .before .before .before .key-order .ensures .0) (c .before .before .if4 .taken) (c .before .before .before .before .before .before .before .before .before .key-order .ensures .2) (c .order-break .ensures)
+returns-4 c = filled-gives-rule _ _ _ _ _ _ _ _ _ _ _ _ (c .before .before .before .before .before .before .before .before .before .before .before .before .before .before .before .before .before .if2 .left) (c .before .before .before .before .before .before .before .before .before .before .before .before .before .before .before .before .if3 .left) (c .before .before .before .before .before .before .before .before .before .before .before .before .before .before .fill-key-sums .ensures) (c .before .before .before .before .before .before .before .before .order-by-sums .ensures .0) (c .before .before .before .if4 .taken) (c .before .before .before .before .before .before .before .before .order-by-sums .ensures .1) (c .order-break .ensures)
 
 key-rule-requires-3 : tie.Need-key-rule-requires-3
 key-rule-requires-3 c κs = search needs
@@ -67,7 +70,8 @@ key-rule-in-spec =
     returns-2
     key-rule-requires-2
     returns-3
-    key-order-requires
+    fill-key-sums-requires
+    order-by-sums-requires
     order-break-requires
     same-length
     same-length-2

@@ -60,7 +60,7 @@ fn add_shared(
 }
 
 /// The IDs as they are, in some case, or in some case and with escapes.
-fn restyled_ids(cases: &mut Cases, table: usize, record: &Draft, style: usize) -> Draft {
+pub(super) fn restyled_ids(cases: &mut Cases, table: usize, record: &Draft, style: usize) -> Draft {
     let mut styled = record.clone();
     for field in fields_of(table).filter(|field| field.kind == Type::StringID) {
         let Some(value) = record.value(field.name) else {

@@ -1,10 +1,12 @@
 //! Keys that all have one sum (order 7). A lookup by sums alone would take
 //! them for one key, or would compare each with all others.
 
+use super::keys::restyled_ids;
 use super::long::short_record;
 use super::Cases;
 use crate::compare::draft::{quoted, Draft};
-use crate::compare::gate::set_draft::SetDraft;
+use crate::compare::gate::set_draft::{places_from, SetDraft};
+use crate::rules::key_of;
 use crate::table::MOST_RECORDS;
 
 pub(super) fn add(cases: &mut Cases) {
@@ -14,6 +16,10 @@ pub(super) fn add(cases: &mut Cases) {
         // One task has all links.
         add_keys(cases, 14, "SuccessorTaskID", count);
         add_targets(cases, count);
+    }
+    for table in [12, 13, 14, 18, 19] {
+        add_pairs(cases, table, TAILS.len());
+        add_pairs(cases, table, 300);
     }
 }
 
@@ -40,6 +46,42 @@ fn add_keys(cases: &mut Cases, table: usize, name: &str, count: usize) {
     }
 }
 
+/// How the two IDs of a key end: 31 times the sum of the first and that of the
+/// second are always as much, also where the first has another sum.
+const TAILS: [[&str; 2]; 6] =
+    [["b[", "b["], ["az", "b["], ["b[", "az"], ["ay", "c["], ["az", "az"], ["ay", "bz"]];
+
+/// The two IDs that a key starts with. All have one sum over both.
+fn pair(number: usize) -> [String; 2] {
+    let [first, second] = TAILS[number % TAILS.len()];
+    let pairs = number / TAILS.len();
+    [id(pairs / 8) + first, id(pairs % 8) + second]
+}
+
+fn paired(table: usize, number: usize) -> Draft {
+    let ids = pair(number);
+    let with_id = |draft: Draft, (name, id): (&&str, &String)| draft.with_value(name, &quoted(id));
+    key_of(table).iter().zip(&ids).fold(short_record(table, 0), with_id)
+}
+
+/// All differ; then one repeats the first or the one before it, as it is, in
+/// some case, and with escapes.
+fn add_pairs(cases: &mut Cases, table: usize, count: usize) {
+    let records: Vec<Draft> = (0..count).map(|number| paired(table, number)).collect();
+    cases.judge_set(&SetDraft::empty().with_records(table, &records));
+    for at in places_from(1, count) {
+        let mut sources = vec![0, at - 1];
+        sources.dedup();
+        for from in sources {
+            for style in 0..3 {
+                let mut repeated = records.clone();
+                repeated[at] = restyled_ids(cases, table, &records[from], style);
+                cases.judge_set(&SetDraft::empty().with_records(table, &repeated));
+            }
+        }
+    }
+}
+
 /// Workshifts of such calendars: all are there, and then not the first, not
 /// the last.
 fn add_targets(cases: &mut Cases, count: usize) {
@@ -56,7 +98,7 @@ fn add_targets(cases: &mut Cases, count: usize) {
 mod tests {
     use std::collections::HashSet;
 
-    use super::id;
+    use super::{id, pair};
     use crate::table::MOST_RECORDS;
 
     fn sum(text: &str) -> u32 {
@@ -69,5 +111,17 @@ mod tests {
         assert_eq!(ids.len(), MOST_RECORDS);
         let sums: HashSet<u32> = ids.iter().map(|id| sum(id)).collect();
         assert_eq!(sums.len(), 1);
+    }
+
+    #[test]
+    fn pairs_differ_and_have_one_sum() {
+        let pairs: HashSet<[String; 2]> = (0..300).map(pair).collect();
+        assert_eq!(pairs.len(), 300);
+        let over_both =
+            |[first, second]: &[String; 2]| sum(first).wrapping_mul(31).wrapping_add(sum(second));
+        let sums: HashSet<u32> = pairs.iter().map(over_both).collect();
+        assert_eq!(sums.len(), 1);
+        let firsts: HashSet<u32> = pairs.iter().map(|[first, _]| sum(first)).collect();
+        assert_eq!(firsts.len(), 2);
     }
 }
