@@ -10,11 +10,15 @@
 //           bits
 // The program ends where the input does, and at a case that is too long or asks nothing known.
 ghost use Prim.Native.Nat.{_≤_};
-ghost use mathlib.Core.Path.{_≡_};
-ghost use lib.ListN.{length};
 use board::Board;
-use bundle_bytes::put_word;
 use bundle_bytes::word_at;
+use cases::fill_front;
+use cases::lay;
+use cases::low;
+use cases::read_board;
+use cases::write_board;
+use cases::write_number;
+use cases::write_part;
 use desks::Desk;
 use desks::Desks;
 use desks::change_desks;
@@ -22,105 +26,24 @@ use desks::judge_joined;
 use desks::try_desks;
 use desks_calls::Whose;
 use libc::STDIN_FILENO;
-use libc::STDOUT_FILENO;
 use parts::part;
 use program_io::fill;
 
-// Fills the front of a buffer, where it is long enough.
-fn fill_front(buf: &mut [u8], n: usize) -> bool {
-    if buf.len() < n {
-        return false;
-    }
-    fill(STDIN_FILENO, &mut buf[..n])
-}
-
-// Takes a board's lists from 81 times three numbers.
-fn get_board(bytes: &[u8], kinds: &mut [u32], places: &mut [usize], companions: &mut [usize])
-    requires { ⌜ (length (now kinds) ≡ 81) × (length (now places) ≡ 81) × (length (now companions) ≡ 81) ⌝ }
-{
-    let mut m = 0;
-    while m < 81 {
-        kinds[m] = word_at(bytes, 12 * m);
-        places[m] = word_at(bytes, 12 * m + 4) as usize;
-        companions[m] = word_at(bytes, 12 * m + 8) as usize;
-        m += 1;
-    }
-}
-
-fn read_board() -> Board {
-    let mut bytes = [0u8; 972];
-    let mut kinds = [0u32; 81];
-    let mut places = [0usize; 81];
-    let mut companions = [0usize; 81];
-    fill(STDIN_FILENO, &mut bytes);
-    get_board(&bytes, &mut kinds, &mut places, &mut companions);
-    Board {
-        kinds,
-        places,
-        companions,
-    }
-}
-
-fn low(x: usize) -> u32 {
-    (x % 4294967296) as u32
-}
-
-// Writes a board's lists as 81 times three numbers from a place on.
-fn put_board(out: &mut [u8], at: usize, kinds: &[u32], places: &[usize], companions: &[usize])
-    requires { ⌜ (at ≤ 8) × (length (now kinds) ≡ 81) × (length (now places) ≡ 81) × (length (now companions) ≡ 81) ⌝ }
-{
-    let mut m = 0;
-    while m < 81 {
-        put_word(out, at + 12 * m, kinds[m]);
-        put_word(out, at + 12 * m + 4, low(places[m]));
-        put_word(out, at + 12 * m + 8, low(companions[m]));
-        m += 1;
-    }
-}
-
 fn write_desk(desk: Desk) -> bool {
-    let mut out = [0u8; 976];
     let board = desk.board;
-    let kinds = board.kinds;
-    let places = board.places;
-    let companions = board.companions;
-    put_word(&mut out, 0, desk.refusal);
-    put_board(&mut out, 4, &kinds, &places, &companions);
-    io::write_all(STDOUT_FILENO, &out)
+    write_board(desk.refusal, board)
 }
 
 fn write_desks(desks: Desks) -> bool {
     let a = desks.a;
     let b = desks.b;
-    let mut size = [0u8; 4];
-    put_word(&mut size, 0, low(desks.size));
     if !write_desk(a) {
         return false;
     }
     if !write_desk(b) {
         return false;
     }
-    io::write_all(STDOUT_FILENO, &size)
-}
-
-fn write_part(bytes: &[u8]) -> bool {
-    if bytes.len() == 0 {
-        return true;
-    }
-    io::write_all(STDOUT_FILENO, bytes)
-}
-
-fn pattern(seed: usize, i: usize) -> u8 {
-    ((seed % 256 + i % 256 * 7) % 256) as u8
-}
-
-// Puts the pattern into an output.
-fn lay(out: &mut [u8], seed: usize) {
-    let mut i = 0;
-    while i < out.len() {
-        out[i] = pattern(seed, i);
-        i += 1;
-    }
+    write_number(low(desks.size))
 }
 
 fn whose_of(number: u32) -> Whose {

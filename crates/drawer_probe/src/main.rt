@@ -12,13 +12,16 @@
 //     and 7 i together, its lowest eight bits
 //   6 list it: the length of the text, and the text
 // The program ends where the input does, and at a case that is too long or asks nothing known.
-ghost use Prim.Native.Nat.{_≤_};
-ghost use mathlib.Core.Path.{_≡_};
-ghost use lib.ListN.{length};
 use board::Board;
-use bundle::FileState;
-use bundle_bytes::put_word;
 use bundle_bytes::word_at;
+use cases::fill_front;
+use cases::lay;
+use cases::low;
+use cases::read_board;
+use cases::write_board;
+use cases::write_file;
+use cases::write_number;
+use cases::write_part;
 use drawer_bundles::put_bundle;
 use drawer_bundles::take_bundle;
 use drawer_text::put_list;
@@ -29,125 +32,12 @@ use drawers::drawer_make_in;
 use drawers::drawer_state;
 use drawers::drawer_try_in;
 use libc::STDIN_FILENO;
-use libc::STDOUT_FILENO;
 use parts::part;
 use program_io::fill;
 
-// Fills the front of a buffer, where it is long enough.
-fn fill_front(buf: &mut [u8], n: usize) -> bool {
-    if buf.len() < n {
-        return false;
-    }
-    fill(STDIN_FILENO, &mut buf[..n])
-}
-
-// Takes a board's lists from 81 times three numbers.
-fn get_board(bytes: &[u8], kinds: &mut [u32], places: &mut [usize], companions: &mut [usize])
-    requires { ⌜ (length (now kinds) ≡ 81) × (length (now places) ≡ 81) × (length (now companions) ≡ 81) ⌝ }
-{
-    let mut m = 0;
-    while m < 81 {
-        kinds[m] = word_at(bytes, 12 * m);
-        places[m] = word_at(bytes, 12 * m + 4) as usize;
-        companions[m] = word_at(bytes, 12 * m + 8) as usize;
-        m += 1;
-    }
-}
-
-fn read_board() -> Board {
-    let mut bytes = [0u8; 972];
-    let mut kinds = [0u32; 81];
-    let mut places = [0usize; 81];
-    let mut companions = [0usize; 81];
-    fill(STDIN_FILENO, &mut bytes);
-    get_board(&bytes, &mut kinds, &mut places, &mut companions);
-    Board {
-        kinds,
-        places,
-        companions,
-    }
-}
-
-fn low(x: usize) -> u32 {
-    (x % 4294967296) as u32
-}
-
-// Writes a board's lists as 81 times three numbers from a place on.
-fn put_board(out: &mut [u8], at: usize, kinds: &[u32], places: &[usize], companions: &[usize])
-    requires { ⌜ (at ≤ 8) × (length (now kinds) ≡ 81) × (length (now places) ≡ 81) × (length (now companions) ≡ 81) ⌝ }
-{
-    let mut m = 0;
-    while m < 81 {
-        put_word(out, at + 12 * m, kinds[m]);
-        put_word(out, at + 12 * m + 4, low(places[m]));
-        put_word(out, at + 12 * m + 8, low(companions[m]));
-        m += 1;
-    }
-}
-
 fn write_drawn(drawn: Drawn) -> bool {
-    let mut out = [0u8; 976];
     let board = drawn.board;
-    let kinds = board.kinds;
-    let places = board.places;
-    let companions = board.companions;
-    put_word(&mut out, 0, drawn.refusal);
-    put_board(&mut out, 4, &kinds, &places, &companions);
-    io::write_all(STDOUT_FILENO, &out)
-}
-
-fn write_part(bytes: &[u8]) -> bool {
-    if bytes.len() == 0 {
-        return true;
-    }
-    io::write_all(STDOUT_FILENO, bytes)
-}
-
-fn write_number(x: u32) -> bool {
-    let mut out = [0u8; 4];
-    put_word(&mut out, 0, x);
-    io::write_all(STDOUT_FILENO, &out)
-}
-
-fn pattern(seed: usize, i: usize) -> u8 {
-    ((seed % 256 + i % 256 * 7) % 256) as u8
-}
-
-// Puts the pattern into an output.
-fn lay(out: &mut [u8], seed: usize) {
-    let mut i = 0;
-    while i < out.len() {
-        out[i] = pattern(seed, i);
-        i += 1;
-    }
-}
-
-fn state_number(state: FileState) -> u32 {
-    match state {
-        FileState::Present => 0,
-        FileState::Omitted => 1,
-        FileState::Refused { .. } => 2,
-    }
-}
-
-fn state_refusal(state: FileState) -> u32 {
-    match state {
-        FileState::Present => 0,
-        FileState::Omitted => 0,
-        FileState::Refused { number } => number,
-    }
-}
-
-fn write_found(drawer: &[u8], k: usize) -> bool {
-    let file = drawer_file(drawer, k);
-    let mut out = [0u8; 12];
-    put_word(&mut out, 0, state_number(drawer_state(drawer, k)));
-    put_word(&mut out, 4, state_refusal(drawer_state(drawer, k)));
-    put_word(&mut out, 8, low(file.len()));
-    if io::write_all(STDOUT_FILENO, &out) {
-        return write_part(file);
-    }
-    false
+    write_board(drawn.refusal, board)
 }
 
 fn make(
@@ -178,6 +68,10 @@ fn change(head: &[u8], drawer: &mut [u8], new: &mut [u8], work: &mut [u32]) -> b
         return write_drawn(drawer_try_in(drawer, board, k, present, bytes, work));
     }
     make(drawer, board, k, present, bytes, work)
+}
+
+fn look_up(drawer: &[u8], k: usize) -> bool {
+    write_file(drawer_state(drawer, k), drawer_file(drawer, k))
 }
 
 fn put(drawer: &mut [u8], new: &mut [u8], w: usize) -> bool {
@@ -234,7 +128,7 @@ fn answer_drawer(
         0 => write_drawn(drawer_judge_in(drawer, work)),
         1 => change(head, drawer, new, work),
         2 => change(head, drawer, new, work),
-        3 => write_found(drawer, word_at(head, 8) as usize),
+        3 => look_up(drawer, word_at(head, 8) as usize),
         4 => put(drawer, new, word_at(head, 16) as usize),
         5 => take_front(
             drawer,

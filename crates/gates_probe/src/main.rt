@@ -15,12 +15,19 @@
 // The calls are those over lists, in a workspace that holds what the case before left there. The program
 // ends where the input does, and at a case that is too long or asks nothing known.
 ghost use Prim.Native.Nat.{_≤_};
-use bundle::FileState;
 use bundle::Made;
 use bundle::file_part;
 use bundle::file_state;
 use bundle_bytes::put_word;
 use bundle_bytes::word_at;
+use cases::fill_front;
+use cases::get_marks;
+use cases::lay;
+use cases::low;
+use cases::put_marks;
+use cases::write_file;
+use cases::write_part;
+use cases::write_reason;
 use gate_lists::Which;
 use gate_lists::file_count;
 use gate_lists::judge_lists;
@@ -28,28 +35,8 @@ use gate_lists::make_lists;
 use gate_lists::reason_lists;
 use gate_lists::try_lists;
 use libc::STDIN_FILENO;
-use libc::STDOUT_FILENO;
-use mark_numbers::Mark;
-use mark_numbers::mark_in;
-use mark_numbers::put_mark;
 use parts::part;
 use program_io::fill;
-use reason_answer::Reason;
-use reason_answer::Shown;
-
-// No gate has more marks.
-const MOST_MARKS: usize = 96;
-
-// What a case asks, but for the bundle and the new bytes.
-struct Asked {
-    which: Which,
-    op: u32,
-    k: usize,
-    present: bool,
-    new_length: usize,
-    room: usize,
-    seed: usize,
-}
 
 enum Gate {
     Known { which: Which },
@@ -71,209 +58,20 @@ fn gate_of(number: u32) -> Gate {
     }
 }
 
-// How many bytes a board of the gate takes.
-fn board_length(which: Which) -> usize
-    ensures { λ r. ⌜ r ≤ 1152 ⌝ }
+// How many marks the gate has; the lists here have room for 96.
+fn marks_of(which: Which) -> usize
+    ensures { λ r. ⌜ r ≤ 96 ⌝ }
 {
     match which {
-        Which::Schedule => 972,
-        Which::Baseline => 1020,
-        Which::Contract => 228,
+        Which::Schedule => 81,
+        Which::Baseline => 85,
+        Which::Contract => 19,
     }
 }
 
-// ---- Bytes in and out
+// ---- The calls with a board. `bytes` has the handed board, and then the answer.
 
-// Fills the front of a buffer, where it is long enough.
-fn fill_front(buf: &mut [u8], n: usize) -> bool {
-    if buf.len() < n {
-        return false;
-    }
-    fill(STDIN_FILENO, &mut buf[..n])
-}
-
-fn write_part(bytes: &[u8]) -> bool {
-    if bytes.len() == 0 {
-        return true;
-    }
-    io::write_all(STDOUT_FILENO, bytes)
-}
-
-fn low(x: usize) -> u32 {
-    (x % 4294967296) as u32
-}
-
-fn pattern(seed: usize, i: usize) -> u8 {
-    ((seed % 256 + i % 256 * 7) % 256) as u8
-}
-
-// Puts the pattern into an output.
-fn lay(out: &mut [u8], seed: usize) {
-    let mut i = 0;
-    while i < out.len() {
-        out[i] = pattern(seed, i);
-        i += 1;
-    }
-}
-
-// ---- A board
-
-// Takes a board's lists from three numbers for each mark, as many as there is room for.
-fn get_board(bytes: &[u8], kinds: &mut [u32], places: &mut [usize], companions: &mut [usize]) {
-    let mut m = 0;
-    while m < MOST_MARKS {
-        let mark = Mark {
-            kind: word_at(bytes, 12 * m),
-            place: word_at(bytes, 12 * m + 4) as usize,
-            companion: word_at(bytes, 12 * m + 8) as usize,
-        };
-        put_mark(m, mark, kinds, places, companions);
-        m += 1;
-    }
-}
-
-// Writes a board's lists as three numbers for each mark behind the first eight bytes.
-fn put_board(out: &mut [u8], kinds: &[u32], places: &[usize], companions: &[usize]) {
-    let mut m = 0;
-    while m < MOST_MARKS {
-        let mark = mark_in(kinds, places, companions, m);
-        put_word(out, 12 * m + 8, mark.kind);
-        put_word(out, 12 * m + 12, low(mark.place));
-        put_word(out, 12 * m + 16, low(mark.companion));
-        m += 1;
-    }
-}
-
-// Reads the lists of a gate's board, by way of a buffer.
-fn read_board(
-    which: Which,
-    bytes: &mut [u8],
-    kinds: &mut [u32],
-    places: &mut [usize],
-    companions: &mut [usize],
-) -> bool {
-    if !fill_front(bytes, board_length(which)) {
-        return false;
-    }
-    get_board(bytes, kinds, places, companions);
-    true
-}
-
-// Writes the answer of a judgement, by way of a buffer.
-fn write_judged(
-    which: Which,
-    made: Made,
-    bytes: &mut [u8],
-    kinds: &[u32],
-    places: &[usize],
-    companions: &[usize],
-) -> bool {
-    put_board(bytes, kinds, places, companions);
-    put_word(bytes, 4, made.refusal);
-    write_part(part(bytes, 4, 8 + board_length(which)))
-}
-
-// That of a change: with the new bundle's length.
-fn write_made(
-    which: Which,
-    made: Made,
-    bytes: &mut [u8],
-    kinds: &[u32],
-    places: &[usize],
-    companions: &[usize],
-) -> bool {
-    put_board(bytes, kinds, places, companions);
-    put_word(bytes, 0, made.refusal);
-    put_word(bytes, 4, low(made.length));
-    write_part(part(bytes, 0, 8 + board_length(which)))
-}
-
-// ---- A file, and a reason
-
-fn state_of(state: FileState) -> u32 {
-    match state {
-        FileState::Present => 0,
-        FileState::Omitted => 1,
-        FileState::Refused { number: _ } => 2,
-    }
-}
-
-fn refusal_of(state: FileState) -> u32 {
-    match state {
-        FileState::Present => 0,
-        FileState::Omitted => 0,
-        FileState::Refused { number } => number,
-    }
-}
-
-fn look_up(which: Which, bundle: &[u8], k: usize) -> bool {
-    let mut out = [0u8; 12];
-    let n = file_count(which);
-    let file = file_part(bundle, n, k);
-    put_word(&mut out, 0, state_of(file_state(bundle, n, k)));
-    put_word(&mut out, 4, refusal_of(file_state(bundle, n, k)));
-    put_word(&mut out, 8, low(file.len()));
-    if io::write_all(STDOUT_FILENO, &out) {
-        return write_part(file);
-    }
-    false
-}
-
-fn put_record(out: &mut [u8], tag: u32, shown: Shown) {
-    put_word(out, 0, tag);
-    put_word(out, 4, low(shown.file));
-    put_word(out, 8, low(shown.record));
-    put_word(out, 12, low(shown.companion));
-}
-
-fn put_field(out: &mut [u8], shown: Shown, searched: usize) {
-    put_word(out, 16, low(shown.field));
-    put_word(out, 20, low(shown.start));
-    put_word(out, 24, low(shown.length));
-    put_word(out, 28, low(searched));
-}
-
-fn put_shown(out: &mut [u8], tag: u32, shown: Shown, searched: usize) {
-    put_record(out, tag, shown);
-    put_field(out, shown, searched);
-}
-
-// Puts a number behind its tag.
-fn put_told(out: &mut [u8], tag: u32, number: u32) {
-    put_word(out, 0, tag);
-    put_word(out, 4, number);
-}
-
-fn put_own_mark(out: &mut [u8], kind: u32, place: usize, companion: usize) {
-    put_told(out, 3, kind);
-    put_word(out, 8, low(place));
-    put_word(out, 12, low(companion));
-}
-
-fn put_reason(out: &mut [u8], reason: Reason) {
-    match reason {
-        Reason::Refused { refusal } => put_told(out, 0, refusal),
-        Reason::Holds => put_told(out, 1, 0),
-        Reason::NotJudged { file } => put_told(out, 2, low(file)),
-        Reason::OwnMark {
-            kind,
-            place,
-            companion,
-        } => put_own_mark(out, kind, place, companion),
-        Reason::Broken { shown } => put_shown(out, 4, shown, 0),
-        Reason::Missing { shown, searched } => put_shown(out, 5, shown, searched),
-    }
-}
-
-fn tell(which: Which, bundle: &[u8], mark: usize, work: &mut [u32]) -> bool {
-    let mut out = [0u8; 36];
-    put_reason(&mut out, reason_lists(which, bundle, mark, work));
-    io::write_all(STDOUT_FILENO, &out)
-}
-
-// ---- The calls
-
-fn judge(
+fn judge_with(
     which: Which,
     bundle: &[u8],
     bytes: &mut [u8],
@@ -283,37 +81,38 @@ fn judge(
     companions: &mut [usize],
 ) -> bool {
     let made = judge_lists(which, bundle, work, kinds, places, companions);
-    write_judged(which, made, bytes, kinds, places, companions)
+    put_marks(bytes, kinds, places, companions);
+    put_word(bytes, 8, made.refusal);
+    write_part(part(bytes, 8, 12 + 12 * marks_of(which)))
 }
 
-fn try_change<'a>(
-    asked: Asked,
-    bundle: &'a [u8],
-    new: &'a [u8],
-    bytes: &mut [u8],
-    work: &mut [u32],
-    kinds: &mut [u32],
-    places: &mut [usize],
-    companions: &mut [usize],
-) -> bool {
-    let which = asked.which;
-    let made = try_lists(
+fn judge(which: Which, bundle: &[u8], bytes: &mut [u8], work: &mut [u32]) -> bool {
+    let n = marks_of(which);
+    let mut kinds = [9u32; 96];
+    let mut places = [9usize; 96];
+    let mut companions = [9usize; 96];
+    judge_with(
         which,
         bundle,
-        asked.k,
-        asked.present,
-        new,
+        bytes,
         work,
-        kinds,
-        places,
-        companions,
-    );
-    write_made(which, made, bytes, kinds, places, companions)
+        &mut kinds[..n],
+        &mut places[..n],
+        &mut companions[..n],
+    )
 }
 
-// Makes a change into the whole of an output.
-fn make_change<'a>(
-    asked: Asked,
+// Writes what a change answered, and the new bundle's length.
+fn write_made(which: Which, made: Made, bytes: &mut [u8]) -> bool {
+    put_word(bytes, 4, made.refusal);
+    put_word(bytes, 8, low(made.length));
+    write_part(part(bytes, 4, 12 + 12 * marks_of(which)))
+}
+
+// Tries the change of this head, or makes it.
+fn change_with<'a>(
+    which: Which,
+    head: &[u8],
     bundle: &'a [u8],
     new: &'a [u8],
     out: &mut [u8],
@@ -322,14 +121,30 @@ fn make_change<'a>(
     kinds: &mut [u32],
     places: &mut [usize],
     companions: &mut [usize],
-) -> bool {
-    let which = asked.which;
-    lay(out, asked.seed);
+) -> Made {
+    let k = word_at(head, 12) as usize;
+    let present = word_at(head, 16) == 1;
+    get_marks(bytes, kinds, places, companions);
+    if word_at(head, 4) == 1 {
+        let tried = try_lists(
+            which,
+            bundle,
+            k,
+            present,
+            new,
+            work,
+            kinds,
+            places,
+            companions,
+        );
+        put_marks(bytes, kinds, places, companions);
+        return tried;
+    }
     let made = make_lists(
         which,
         bundle,
-        asked.k,
-        asked.present,
+        k,
+        present,
         new,
         out,
         work,
@@ -337,7 +152,50 @@ fn make_change<'a>(
         places,
         companions,
     );
-    if write_made(which, made, bytes, kinds, places, companions) {
+    put_marks(bytes, kinds, places, companions);
+    made
+}
+
+fn change_of<'a>(
+    which: Which,
+    head: &[u8],
+    bundle: &'a [u8],
+    new: &'a [u8],
+    out: &mut [u8],
+    bytes: &mut [u8],
+    work: &mut [u32],
+) -> Made {
+    let n = marks_of(which);
+    let mut kinds = [9u32; 96];
+    let mut places = [9usize; 96];
+    let mut companions = [9usize; 96];
+    change_with(
+        which,
+        head,
+        bundle,
+        new,
+        out,
+        bytes,
+        work,
+        &mut kinds[..n],
+        &mut places[..n],
+        &mut companions[..n],
+    )
+}
+
+// Makes a change into the whole of an output.
+fn make<'a>(
+    which: Which,
+    head: &[u8],
+    bundle: &'a [u8],
+    new: &'a [u8],
+    out: &mut [u8],
+    bytes: &mut [u8],
+    work: &mut [u32],
+) -> bool {
+    lay(out, word_at(head, 28) as usize);
+    let made = change_of(which, head, bundle, new, out, bytes, work);
+    if write_made(which, made, bytes) {
         return write_part(out);
     }
     false
@@ -345,231 +203,71 @@ fn make_change<'a>(
 
 // The same into the front of an output, where it is long enough.
 fn make_front<'a>(
-    asked: Asked,
+    which: Which,
+    head: &[u8],
     bundle: &'a [u8],
     new: &'a [u8],
     out: &mut [u8],
     bytes: &mut [u8],
     work: &mut [u32],
-    kinds: &mut [u32],
-    places: &mut [usize],
-    companions: &mut [usize],
 ) -> bool {
-    let room = asked.room;
+    let room = word_at(head, 24) as usize;
     if out.len() < room {
         return false;
     }
-    make_change(
-        asked,
-        bundle,
-        new,
-        &mut out[..room],
-        bytes,
-        work,
-        kinds,
-        places,
-        companions,
-    )
+    make(which, head, bundle, new, &mut out[..room], bytes, work)
 }
 
-// Reads what a change is handed over with: the board, and the new bytes.
-fn read_change(
+// Tries or makes a change, once the board and the new bytes are read.
+fn change(
     which: Which,
-    news: &mut [u8],
-    n: usize,
-    bytes: &mut [u8],
-    kinds: &mut [u32],
-    places: &mut [usize],
-    companions: &mut [usize],
-) -> bool {
-    if !read_board(which, bytes, kinds, places, companions) {
-        return false;
-    }
-    fill_front(news, n)
-}
-
-// Tries or makes a change.
-fn change<'a>(
-    asked: Asked,
-    bundle: &'a [u8],
-    new: &'a [u8],
-    out: &mut [u8],
-    bytes: &mut [u8],
-    work: &mut [u32],
-    kinds: &mut [u32],
-    places: &mut [usize],
-    companions: &mut [usize],
-) -> bool {
-    if asked.op == 1 {
-        return try_change(asked, bundle, new, bytes, work, kinds, places, companions);
-    }
-    make_front(
-        asked,
-        bundle,
-        new,
-        out,
-        bytes,
-        work,
-        kinds,
-        places,
-        companions,
-    )
-}
-
-// A call with a board, in lists of as many marks as the gate has.
-fn call(
-    asked: Asked,
+    head: &[u8],
     bundle: &[u8],
     news: &mut [u8],
     out: &mut [u8],
     bytes: &mut [u8],
     work: &mut [u32],
-    kinds: &mut [u32],
-    places: &mut [usize],
-    companions: &mut [usize],
 ) -> bool {
-    let which = asked.which;
-    let n = asked.new_length;
-    if asked.op == 0 {
-        return judge(which, bundle, bytes, work, kinds, places, companions);
+    let n = word_at(head, 20) as usize;
+    if !fill_front(bytes, 12 * marks_of(which)) {
+        return false;
     }
-    if !read_change(which, news, n, bytes, kinds, places, companions) {
+    if !fill_front(news, n) {
         return false;
     }
     let new = part(news, 0, n);
-    change(
-        asked,
-        bundle,
-        new,
-        out,
-        bytes,
-        work,
-        kinds,
-        places,
-        companions,
-    )
-}
-
-fn call_schedule(
-    asked: Asked,
-    bundle: &[u8],
-    news: &mut [u8],
-    out: &mut [u8],
-    bytes: &mut [u8],
-    work: &mut [u32],
-) -> bool {
-    let mut kinds = [9u32; 81];
-    let mut places = [9usize; 81];
-    let mut companions = [9usize; 81];
-    call(
-        asked,
-        bundle,
-        news,
-        out,
-        bytes,
-        work,
-        &mut kinds,
-        &mut places,
-        &mut companions,
-    )
-}
-
-fn call_baseline(
-    asked: Asked,
-    bundle: &[u8],
-    news: &mut [u8],
-    out: &mut [u8],
-    bytes: &mut [u8],
-    work: &mut [u32],
-) -> bool {
-    let mut kinds = [9u32; 85];
-    let mut places = [9usize; 85];
-    let mut companions = [9usize; 85];
-    call(
-        asked,
-        bundle,
-        news,
-        out,
-        bytes,
-        work,
-        &mut kinds,
-        &mut places,
-        &mut companions,
-    )
-}
-
-fn call_contract(
-    asked: Asked,
-    bundle: &[u8],
-    news: &mut [u8],
-    out: &mut [u8],
-    bytes: &mut [u8],
-    work: &mut [u32],
-) -> bool {
-    let mut kinds = [9u32; 19];
-    let mut places = [9usize; 19];
-    let mut companions = [9usize; 19];
-    call(
-        asked,
-        bundle,
-        news,
-        out,
-        bytes,
-        work,
-        &mut kinds,
-        &mut places,
-        &mut companions,
-    )
-}
-
-fn call_gate(
-    asked: Asked,
-    bundle: &[u8],
-    news: &mut [u8],
-    out: &mut [u8],
-    bytes: &mut [u8],
-    work: &mut [u32],
-) -> bool {
-    let which = asked.which;
-    match which {
-        Which::Schedule => call_schedule(asked, bundle, news, out, bytes, work),
-        Which::Baseline => call_baseline(asked, bundle, news, out, bytes, work),
-        Which::Contract => call_contract(asked, bundle, news, out, bytes, work),
+    if word_at(head, 4) == 1 {
+        let made = change_of(which, head, bundle, new, out, bytes, work);
+        return write_made(which, made, bytes);
     }
+    make_front(which, head, bundle, new, out, bytes, work)
 }
 
 // ---- The cases
 
+fn look_up(which: Which, bundle: &[u8], k: usize) -> bool {
+    let n = file_count(which);
+    write_file(file_state(bundle, n, k), file_part(bundle, n, k))
+}
+
 // Answers what is asked of a bundle; whether to go on.
 fn answer_case(
-    asked: Asked,
+    which: Which,
+    head: &[u8],
     bundle: &[u8],
     news: &mut [u8],
     out: &mut [u8],
     bytes: &mut [u8],
     work: &mut [u32],
 ) -> bool {
-    let which = asked.which;
-    let op = asked.op;
-    match op {
-        0 => call_gate(asked, bundle, news, out, bytes, work),
-        1 => call_gate(asked, bundle, news, out, bytes, work),
-        2 => call_gate(asked, bundle, news, out, bytes, work),
-        3 => look_up(which, bundle, asked.k),
-        7 => tell(which, bundle, asked.k, work),
+    let k = word_at(head, 12) as usize;
+    match word_at(head, 4) {
+        0 => judge(which, bundle, bytes, work),
+        1 => change(which, head, bundle, news, out, bytes, work),
+        2 => change(which, head, bundle, news, out, bytes, work),
+        3 => look_up(which, bundle, k),
+        7 => write_reason(reason_lists(which, bundle, k, work)),
         _ => false,
-    }
-}
-
-fn asked_of(which: Which, head: &[u8]) -> Asked {
-    Asked {
-        which,
-        op: word_at(head, 4),
-        k: word_at(head, 12) as usize,
-        present: word_at(head, 16) == 1,
-        new_length: word_at(head, 20) as usize,
-        room: word_at(head, 24) as usize,
-        seed: word_at(head, 28) as usize,
     }
 }
 
@@ -591,14 +289,9 @@ fn answer(
     }
     let gate = gate_of(word_at(&head, 0));
     match gate {
-        Gate::Known { which } => answer_case(
-            asked_of(which, &head),
-            part(buf, 0, n),
-            news,
-            out,
-            bytes,
-            work,
-        ),
+        Gate::Known { which } => {
+            answer_case(which, &head, part(buf, 0, n), news, out, bytes, work)
+        }
         Gate::Unknown => false,
     }
 }
@@ -616,7 +309,7 @@ fn main() {
     let mut buf = [0u8; 1048577];
     let mut news = [0u8; 1048577];
     let mut out = [0u8; 1048577];
-    let mut bytes = [0u8; 1160];
+    let mut bytes = [0u8; 1164];
     // a workspace with numbers in it that no file leaves there
     let mut work = [0xA5A5A5A5u32; 794702];
     answer_all(&mut buf, &mut news, &mut out, &mut bytes, &mut work);

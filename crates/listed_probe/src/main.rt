@@ -10,16 +10,17 @@ ghost use Prim.Native.Nat.{_≤_};
 ghost use lib.ListN.{length};
 use bundle_bytes::put_word;
 use bundle_bytes::word_at;
+use cases::fill_front;
+use cases::get_marks;
+use cases::low;
+use cases::put_marks;
+use cases::write_part;
 use gate_flat::Listed;
 use gate_plain::judge_plain;
 use libc::STDIN_FILENO;
-use libc::STDOUT_FILENO;
 use listed_numbers::judge_numbers;
 use listed_numbers::make_numbers;
 use listed_numbers::try_numbers;
-use mark_numbers::Mark;
-use mark_numbers::mark_in;
-use mark_numbers::put_mark;
 use parts::part;
 use program_io::fill;
 
@@ -37,25 +38,6 @@ struct Asked {
 }
 
 // ---- Bytes in and out
-
-// Fills the front of a buffer, where it is long enough.
-fn fill_front(buf: &mut [u8], n: usize) -> bool {
-    if buf.len() < n {
-        return false;
-    }
-    fill(STDIN_FILENO, &mut buf[..n])
-}
-
-fn write_part(bytes: &[u8]) -> bool {
-    if bytes.len() == 0 {
-        return true;
-    }
-    io::write_all(STDOUT_FILENO, bytes)
-}
-
-fn low(x: usize) -> u32 {
-    (x % 4294967296) as u32
-}
 
 // Puts the numbers of a list into bytes, as many as there is room for.
 fn put_list(bytes: &mut [u8], list: &[u32])
@@ -77,32 +59,6 @@ fn write_list(bytes: &mut [u8], list: &[u32]) -> bool {
     write_part(part(bytes, 0, 4 * list.len()))
 }
 
-// Takes the marks that a call gets from three numbers for each.
-fn get_board(bytes: &[u8], kinds: &mut [u32], places: &mut [usize], companions: &mut [usize]) {
-    let mut m = 0;
-    while m < 81 {
-        let mark = Mark {
-            kind: word_at(bytes, 12 * m),
-            place: word_at(bytes, 12 * m + 4) as usize,
-            companion: word_at(bytes, 12 * m + 8) as usize,
-        };
-        put_mark(m, mark, kinds, places, companions);
-        m += 1;
-    }
-}
-
-// Puts the marks as three numbers for each behind the first twelve bytes.
-fn put_board(out: &mut [u8], kinds: &[u32], places: &[usize], companions: &[usize]) {
-    let mut m = 0;
-    while m < 81 {
-        let mark = mark_in(kinds, places, companions, m);
-        put_word(out, 12 * m + 12, mark.kind);
-        put_word(out, 12 * m + 16, low(mark.place));
-        put_word(out, 12 * m + 20, low(mark.companion));
-        m += 1;
-    }
-}
-
 // Writes what every call answers, by way of a buffer.
 fn write_answer(
     told: Listed,
@@ -111,7 +67,7 @@ fn write_answer(
     places: &[usize],
     companions: &[usize],
 ) -> bool {
-    put_board(bytes, kinds, places, companions);
+    put_marks(bytes, kinds, places, companions);
     put_word(bytes, 0, told.refusal);
     put_word(bytes, 4, low(told.length));
     put_word(bytes, 8, low(told.entries));
@@ -190,7 +146,7 @@ fn answer_call<'a>(
     let mut kinds = [0u32; 81];
     let mut places = [0usize; 81];
     let mut companions = [0usize; 81];
-    get_board(board, &mut kinds, &mut places, &mut companions);
+    get_marks(board, &mut kinds, &mut places, &mut companions);
     let told = call(
         asked,
         bundle,

@@ -8,6 +8,8 @@
 // at a case that is too long.
 use bundle_bytes::put_word;
 use bundle_bytes::word_at;
+use cases::fill_front;
+use cases::low;
 use libc::STDIN_FILENO;
 use libc::STDOUT_FILENO;
 use loop_text::tell_loop;
@@ -15,18 +17,6 @@ use parts::part;
 use program_io::fill;
 use show_loop::Shown;
 use show_loop::show_loop_in;
-
-// Fills the front of a buffer, where it is long enough.
-fn fill_front(buf: &mut [u8], n: usize) -> bool {
-    if buf.len() < n {
-        return false;
-    }
-    fill(STDIN_FILENO, &mut buf[..n])
-}
-
-fn low(x: usize) -> u32 {
-    (x % 4294967296) as u32
-}
 
 fn pattern(seed: u32, i: usize) -> u32 {
     low(seed as usize + i % 4294967296 * 7)

@@ -9,6 +9,8 @@ ghost use Prim.Native.Nat.{_≤_, _<_};
 ghost use mathlib.Core.Path.{_≡_};
 use bundle_bytes::put_word;
 use bundle_bytes::word_at;
+use cases::fill_front;
+use cases::low;
 use json_bytes::byte_at;
 use libc::STDIN_FILENO;
 use libc::STDOUT_FILENO;
@@ -22,14 +24,6 @@ use quarter::left_out;
 use quarter::take_in;
 use whole_size::size_of;
 use whole_size::whole_in;
-
-// Fills the front of a buffer, where it is long enough.
-fn fill_front(buf: &mut [u8], n: usize) -> bool {
-    if buf.len() < n {
-        return false;
-    }
-    fill(STDIN_FILENO, &mut buf[..n])
-}
 
 fn wide(x: u32) -> u64
     ensures { λ r. ⌜ r ≡ x ⌝ }
@@ -87,10 +81,6 @@ fn get_left(bytes: &[u8]) -> [bool; 256] {
         i += 1;
     }
     left
-}
-
-fn low(x: usize) -> u32 {
-    (x % 4294967296) as u32
 }
 
 // Writes the first n numbers of a list one behind the other from a place on.

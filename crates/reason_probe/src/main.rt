@@ -6,24 +6,14 @@
 // The program ends where the input does, and at a bundle that is too long or a gate that is not known.
 use bundle_bytes::put_word;
 use bundle_bytes::word_at;
+use cases::fill_front;
+use cases::low;
 use gate_lists::Which;
 use libc::STDIN_FILENO;
 use libc::STDOUT_FILENO;
 use parts::part;
 use program_io::fill;
 use reason_text::reasons;
-
-// Fills the front of a buffer, where it is long enough.
-fn fill_front(buf: &mut [u8], n: usize) -> bool {
-    if buf.len() < n {
-        return false;
-    }
-    fill(STDIN_FILENO, &mut buf[..n])
-}
-
-fn low(x: usize) -> u32 {
-    (x % 4294967296) as u32
-}
 
 fn write_text(text: &[u8]) -> bool {
     let mut head = [0u8; 4];

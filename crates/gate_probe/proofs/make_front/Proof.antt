@@ -6,6 +6,12 @@ use borrow.Author.Needs.{needs}
 use Rattle.gate_probe.proofs.make_front.Statement.{statement}
 use Rattle.gate_probe.proofs.make_front.Tie as tie
 
+word-at-requires : tie.Need-word-at-requires
+word-at-requires c κs = search needs
+
+cast-room : tie.Need-cast-room
+cast-room c = search needs
+
 returns : tie.Need-returns
 returns c = search needs
 
@@ -28,6 +34,8 @@ pub make-front-spec : {M : Type 1} → statement M
 make-front-spec =
     tie.close
     (tie.spec
+    word-at-requires
+    cast-room
     returns
     slice-relend-prefix-make
     slice-aggregate-make

@@ -15,7 +15,7 @@ slice-aggregate-answer-all-3 : tie.Need-slice-aggregate-answer-all-3
 slice-aggregate-answer-all-3 c = sym (length-replicate {A = ℕ} 1048577 0)
 
 slice-aggregate-answer-all-4 : tie.Need-slice-aggregate-answer-all-4
-slice-aggregate-answer-all-4 c = sym (length-replicate {A = ℕ} 1160 0)
+slice-aggregate-answer-all-4 c = sym (length-replicate {A = ℕ} 1164 0)
 
 slice-aggregate-answer-all-5 : tie.Need-slice-aggregate-answer-all-5
 slice-aggregate-answer-all-5 c = sym (length-replicate {A = ℕ} 794702 0xA5A5A5A5)
