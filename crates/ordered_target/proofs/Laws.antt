@@ -4,6 +4,7 @@ use Prim.Native.Nat.{ℕ, zero, suc, _*_, _-_, _≤_, _<_}
 use mathlib.Core.Path.{_≡_, refl, sym, ap, _∙_, fun-ext}
 use mathlib.Core.Bool.{Bool, true, false, not, cond, _&&_}
 use mathlib.Core.List.{List}
+use native.Mathlib.Nat.{sub-zero}
 use native.Mathlib.Omega.{arith}
 use borrow.Author.Tests.{lt-ltb, ne-eqb}
 use lib.ListN.{length, take, drop, length-drop, drop-of-length-le}
@@ -12,7 +13,7 @@ use lib.Dec.{ltb, leb, eqb}
 use Rattle.json_chars.specs.Chars.{charsAt}
 use Rattle.json_same.specs.Same.{sameAs}
 use Rattle.json_same.specs.declared.Case.the-variants.{Folded}
-use Rattle.rule_cells.specs.Cells.{Table, table, cellOf, startOf, textOf, isGiven, firstThat}
+use Rattle.rule_cells.specs.Cells.{Table, table, cellOf, startOf, textOf, isGiven, firstFrom, firstThat}
 use Rattle.rule_when.specs.When.{holdsWhen}
 use Rattle.rule_when.specs.declared.When.{When}
 use Rattle.rule_target.specs.Target.{targetOf, breaksTarget, targetRule}
@@ -100,3 +101,12 @@ module _ (t : Table) (k : ℕ) (w : When) (u : Table) (m : ℕ) (places texts : 
     pub asked-breaks : asked ≡ true → eqb (targetOf (charsAt (t .bytes) at) u m) 0 ≡ breaksTarget t k w u m places texts r
     unfolding textOf
     asked-breaks e = sym (breaks-asked ∙ rw (e, ← is))
+
+-- a lookup decides whether its record breaks the rule
+pub decided : (x b ordered : Bool) → not x ≡ b → (x ≡ true → b ≡ false) × (x ≡ false → ordered ≡ true → b ≡ true)
+decided x b ordered q = (λ e. sym q ∙ ap not e, λ e o. sym q ∙ ap not e)
+
+-- a search from the first record on is the whole
+pub from-first : (breaks : ℕ → Bool) (n : ℕ) → firstFrom breaks (n - 0) 0 ≡ firstThat breaks n
+unfolding firstThat
+from-first breaks n = rw sub-zero

@@ -1,16 +1,18 @@
 // A value that some record of another table must have too. Tables mostly name their targets one after the
 // other, so the record behind the target found last is tried first, then that one again, and then those
 // around it. Only where none of them is it, the target records are put in order, and the value is looked up.
+// From there on a lookup is cheap, and those around are tried no more: where targets come in no order, these
+// tries would be in vain for each record.
 ghost use mathlib.Core.Path.{_≡_};
 ghost use mathlib.Core.Bool.{true, false, not, cond, _&&_};
-ghost use Prim.Native.Nat.{_+_, _-_, _*_, _≤_};
+ghost use Prim.Native.Nat.{_+_, _-_, _*_, _≤_, _<_};
 ghost use lib.ListN.{length, drop};
 ghost use lib.Dec.{ltb, eqb};
 ghost use Rattle.json_bytes.specs.Reads.{byteAt};
 ghost use Rattle.json_chars.specs.Chars.{charsAt};
 ghost use Rattle.json_same.specs.Same.{sameAs};
 ghost use Rattle.json_same.specs.declared.Case.the-variants.{Folded};
-ghost use Rattle.rule_cells.specs.Cells.{table, startOf, textOf, isGiven, firstFrom, firstThat};
+ghost use Rattle.rule_cells.specs.Cells.{table, startOf, textOf, isGiven, firstFrom};
 ghost use Rattle.rule_when.specs.When.{holdsWhen};
 ghost use Rattle.rule_target.specs.Target.{targetOf, breaksTarget, targetRule};
 ghost use Rattle.key_order.specs.Order.{sumsOf, inKeyOrder, areFit};
@@ -34,12 +36,6 @@ use rule_when::holds_when;
 struct Near {
     found: bool,
     record: usize,
-}
-
-// The record that a walk has come to, and near which the next target is tried.
-struct Reached {
-    record: usize,
-    near: usize,
 }
 
 // Where the value of field k of record r ends: that cell stands behind the one of its start, so it is read
@@ -88,6 +84,41 @@ fn is_target(
     false
 }
 
+// Tries the record behind the one that was found last, and then that one.
+fn guess_next(
+    s: &[u8],
+    at: usize,
+    tail: u32,
+    u: &[u8],
+    u_cells: &[u32],
+    u_width: usize,
+    u_records: usize,
+    m: usize,
+    near: usize,
+) -> Near
+    ensures { λ x. ⌜ (x .found ≡ true → eqb (targetOf (charsAt (now (s .entry)) at) (table (now (u .entry)) (now («u_cells» .entry)) «u_width» «u_records») m) 0 ≡ false) ⌝ }
+{
+    if near < u_records {
+        let next = near + 1;
+        if is_target(s, at, tail, u, u_cells, u_width, u_records, m, next) {
+            return Near {
+                found: true,
+                record: next,
+            };
+        }
+    }
+    if is_target(s, at, tail, u, u_cells, u_width, u_records, m, near) {
+        return Near {
+            found: true,
+            record: near,
+        };
+    }
+    Near {
+        found: false,
+        record: near,
+    }
+}
+
 // Tries the records around the one that was found last, from the third behind it to the fourth before it.
 fn guess_around(
     s: &[u8],
@@ -126,38 +157,6 @@ fn guess_around(
     none
 }
 
-// Tries the record behind the one that was found last, then that one, and then those around it.
-fn guess(
-    s: &[u8],
-    at: usize,
-    tail: u32,
-    u: &[u8],
-    u_cells: &[u32],
-    u_width: usize,
-    u_records: usize,
-    m: usize,
-    near: usize,
-) -> Near
-    ensures { λ x. ⌜ (x .found ≡ true → eqb (targetOf (charsAt (now (s .entry)) at) (table (now (u .entry)) (now («u_cells» .entry)) «u_width» «u_records») m) 0 ≡ false) ⌝ }
-{
-    if near < u_records {
-        let next = near + 1;
-        if is_target(s, at, tail, u, u_cells, u_width, u_records, m, next) {
-            return Near {
-                found: true,
-                record: next,
-            };
-        }
-    }
-    if is_target(s, at, tail, u, u_cells, u_width, u_records, m, near) {
-        return Near {
-            found: true,
-            record: near,
-        };
-    }
-    guess_around(s, at, tail, u, u_cells, u_width, u_records, m, near)
-}
-
 // Whether record r breaks the rule if no target record has its value.
 fn is_asked(
     s: &[u8],
@@ -175,35 +174,6 @@ fn is_asked(
         return holds_when(s, cells, width, r, when, places, texts);
     }
     false
-}
-
-// Whether record r surely holds: its target is not asked for, or it was guessed.
-fn guess_record(
-    s: &[u8],
-    cells: &[u32],
-    width: usize,
-    r: usize,
-    t: Target,
-    u: &[u8],
-    u_cells: &[u32],
-    u_width: usize,
-    u_records: usize,
-    places: &[u32],
-    texts: &[u8],
-    near: usize,
-) -> Near
-    ensures { λ x. ⌜ (x .found ≡ true → breaksTarget (table (now (s .entry)) (now (cells .entry)) width 0) (t .k) (t .when) (table (now (u .entry)) (now («u_cells» .entry)) «u_width» «u_records») (t .m) (now (places .entry)) (now (texts .entry)) r ≡ false) ⌝ }
-    ensures { λ x. ⌜ (x .found ≡ false → (isGiven (now (cells .entry)) width r (t .k) && holdsWhen (table (now (s .entry)) (now (cells .entry)) width 0) r (t .when) (now (places .entry)) (now (texts .entry))) ≡ true) ⌝ }
-{
-    if is_asked(s, cells, width, r, t, places, texts) {
-        let at = start_of(cells, width, r, t.k);
-        let tail = tail_before(s, end_of(cells, width, r, t.k));
-        return guess(s, at, tail, u, u_cells, u_width, u_records, t.m, near);
-    }
-    Near {
-        found: true,
-        record: near,
-    }
 }
 
 // A text in field m alone.
@@ -262,7 +232,9 @@ fn look_up(
     }
 }
 
-// Whether record r holds: its target is guessed, or else looked up.
+// Whether record r is seen to hold: its target is not asked for, or it is guessed. Where the lists have the order
+// of the target records, as `ordered` says, it is looked up and not tried around, and a record that is not seen to
+// hold breaks the rule.
 fn find_record(
     s: &[u8],
     cells: &[u32],
@@ -278,74 +250,31 @@ fn find_record(
     sums: &[u32],
     order: &[u32],
     near: usize,
+    ordered: bool,
 ) -> Near
-    requires { ⌜ (now sums ≡ sumsOf (table (now u) (now «u_cells») «u_width» 0) (t .m) «u_records») × (now order ≡ inKeyOrder (table (now u) (now «u_cells») «u_width» 0) (keyOf (oneText (t .m))) «u_records») ⌝ }
-    ensures { λ x. ⌜ not (x .found) ≡ breaksTarget (table (now (s .entry)) (now (cells .entry)) width 0) (t .k) (t .when) (table (now (u .entry)) (now («u_cells» .entry)) «u_width» «u_records») (t .m) (now (places .entry)) (now (texts .entry)) r ⌝ }
+    requires { ⌜ (ordered ≡ true → (now sums ≡ sumsOf (table (now u) (now «u_cells») «u_width» 0) (t .m) «u_records») × (now order ≡ inKeyOrder (table (now u) (now «u_cells») «u_width» 0) (keyOf (oneText (t .m))) «u_records»)) ⌝ }
+    ensures { λ x. ⌜ (x .found ≡ true → breaksTarget (table (now (s .entry)) (now (cells .entry)) width 0) (t .k) (t .when) (table (now (u .entry)) (now («u_cells» .entry)) «u_width» «u_records») (t .m) (now (places .entry)) (now (texts .entry)) r ≡ false) ⌝ }
+    ensures { λ x. ⌜ (x .found ≡ false → ordered ≡ true → breaksTarget (table (now (s .entry)) (now (cells .entry)) width 0) (t .k) (t .when) (table (now (u .entry)) (now («u_cells» .entry)) «u_width» «u_records») (t .m) (now (places .entry)) (now (texts .entry)) r ≡ true) ⌝ }
 {
-    let tried = guess_record(
-        s,
-        cells,
-        width,
-        r,
-        t,
-        u,
-        u_cells,
-        u_width,
-        u_records,
-        places,
-        texts,
-        near,
-    );
-    if tried.found {
-        return tried;
-    }
-    let at = start_of(cells, width, r, t.k);
-    look_up(s, at, u, u_cells, u_width, t.m, sums, order)
-}
-
-// Walks to the first record whose target can't be guessed: none before it breaks the rule.
-fn first_unguessed(
-    s: &[u8],
-    cells: &[u32],
-    width: usize,
-    records: usize,
-    t: Target,
-    u: &[u8],
-    u_cells: &[u32],
-    u_width: usize,
-    u_records: usize,
-    places: &[u32],
-    texts: &[u8],
-) -> Reached
-    ensures { λ x. ⌜ firstThat (breaksTarget (table (now (s .entry)) (now (cells .entry)) width 0) (t .k) (t .when) (table (now (u .entry)) (now («u_cells» .entry)) «u_width» «u_records») (t .m) (now (places .entry)) (now (texts .entry))) records ≡ firstFrom (breaksTarget (table (now (s .entry)) (now (cells .entry)) width 0) (t .k) (t .when) (table (now (u .entry)) (now («u_cells» .entry)) «u_width» «u_records») (t .m) (now (places .entry)) (now (texts .entry))) (records - x .record) (x .record) ⌝ }
-{
-    let mut r = 0;
-    let mut near = 0;
-    while r < records {
-        let tried = guess_record(
-            s,
-            cells,
-            width,
-            r,
-            t,
-            u,
-            u_cells,
-            u_width,
-            u_records,
-            places,
-            texts,
-            near,
-        );
-        if !tried.found {
-            return Reached { record: r, near };
+    if is_asked(s, cells, width, r, t, places, texts) {
+        let at = start_of(cells, width, r, t.k);
+        let tail = tail_before(s, end_of(cells, width, r, t.k));
+        let tried = guess_next(s, at, tail, u, u_cells, u_width, u_records, t.m, near);
+        if tried.found {
+            return tried;
         }
-        near = tried.record;
-        r += 1;
+        if ordered {
+            return look_up(s, at, u, u_cells, u_width, t.m, sums, order);
+        }
+        return guess_around(s, at, tail, u, u_cells, u_width, u_records, t.m, near);
     }
-    Reached { record: r, near }
+    Near {
+        found: true,
+        record: near,
+    }
 }
 
-// From a record on, the first one that breaks the rule, counted from 1; 0 where there is none.
+// Walks on from a record to the first one that is not seen to hold: none before it breaks the rule.
 fn first_unfound(
     s: &[u8],
     cells: &[u32],
@@ -360,13 +289,15 @@ fn first_unfound(
     texts: &[u8],
     sums: &[u32],
     order: &[u32],
-    from: Reached,
+    from: usize,
+    ordered: bool,
 ) -> usize
-    requires { ⌜ (now sums ≡ sumsOf (table (now u) (now «u_cells») «u_width» 0) (t .m) «u_records») × (now order ≡ inKeyOrder (table (now u) (now «u_cells») «u_width» 0) (keyOf (oneText (t .m))) «u_records») ⌝ }
-    ensures { λ x. ⌜ x ≡ firstFrom (breaksTarget (table (now (s .entry)) (now (cells .entry)) width 0) (t .k) (t .when) (table (now (u .entry)) (now («u_cells» .entry)) «u_width» «u_records») (t .m) (now (places .entry)) (now (texts .entry))) (records - from .record) (from .record) ⌝ }
+    requires { ⌜ (ordered ≡ true → (now sums ≡ sumsOf (table (now u) (now «u_cells») «u_width» 0) (t .m) «u_records») × (now order ≡ inKeyOrder (table (now u) (now «u_cells») «u_width» 0) (keyOf (oneText (t .m))) «u_records»)) ⌝ }
+    ensures { λ x. ⌜ firstFrom (breaksTarget (table (now (s .entry)) (now (cells .entry)) width 0) (t .k) (t .when) (table (now (u .entry)) (now («u_cells» .entry)) «u_width» «u_records») (t .m) (now (places .entry)) (now (texts .entry))) (records - from) from ≡ firstFrom (breaksTarget (table (now (s .entry)) (now (cells .entry)) width 0) (t .k) (t .when) (table (now (u .entry)) (now («u_cells» .entry)) «u_width» «u_records») (t .m) (now (places .entry)) (now (texts .entry))) (records - x) x ⌝ }
+    ensures { λ x. ⌜ (ordered ≡ true → x < records → breaksTarget (table (now (s .entry)) (now (cells .entry)) width 0) (t .k) (t .when) (table (now (u .entry)) (now («u_cells» .entry)) «u_width» «u_records») (t .m) (now (places .entry)) (now (texts .entry)) x ≡ true) ⌝ }
 {
-    let mut r = from.record;
-    let mut near = from.near;
+    let mut r = from;
+    let mut near = 0;
     while r < records {
         let tried = find_record(
             s,
@@ -383,17 +314,19 @@ fn first_unfound(
             sums,
             order,
             near,
+            ordered,
         );
         if !tried.found {
-            return r + 1;
+            return r;
         }
         near = tried.record;
         r += 1;
     }
-    0
+    r
 }
 
-// The same, once the target records are in order in the lent lists.
+// From a record on, the first one that breaks the rule, counted from 1; 0 where there is none. The target records
+// are put in order in the lent lists.
 fn unfound_in_order(
     s: &[u8],
     cells: &[u32],
@@ -409,10 +342,10 @@ fn unfound_in_order(
     sums: &mut [u32],
     order: &mut [u32],
     scratch: &mut [u32],
-    from: Reached,
+    from: usize,
 ) -> usize
     requires { ⌜ (areFit (now sums) (now order) (now scratch) ≡ true) × (length (now order) ≡ «u_records») ⌝ }
-    ensures { λ x. ⌜ x ≡ firstFrom (breaksTarget (table (now (s .entry)) (now (cells .entry)) width 0) (t .k) (t .when) (table (now (u .entry)) (now («u_cells» .entry)) «u_width» «u_records») (t .m) (now (places .entry)) (now (texts .entry))) (records - from .record) (from .record) ⌝ }
+    ensures { λ x. ⌜ x ≡ firstFrom (breaksTarget (table (now (s .entry)) (now (cells .entry)) width 0) (t .k) (t .when) (table (now (u .entry)) (now («u_cells» .entry)) «u_width» «u_records») (t .m) (now (places .entry)) (now (texts .entry))) (records - from) from ⌝ }
 {
     key_order(
         u,
@@ -423,7 +356,7 @@ fn unfound_in_order(
         order,
         scratch,
     );
-    first_unfound(
+    let r = first_unfound(
         s,
         cells,
         width,
@@ -438,7 +371,12 @@ fn unfound_in_order(
         sums,
         order,
         from,
-    )
+        true,
+    );
+    if r < records {
+        return r + 1;
+    }
+    0
 }
 
 // The same in lists of its own.
@@ -454,10 +392,10 @@ fn unfound_from(
     u_records: usize,
     places: &[u32],
     texts: &[u8],
-    from: Reached,
+    from: usize,
 ) -> usize
     requires { ⌜ «u_records» ≤ 4096 ⌝ }
-    ensures { λ x. ⌜ x ≡ firstFrom (breaksTarget (table (now (s .entry)) (now (cells .entry)) width 0) (t .k) (t .when) (table (now (u .entry)) (now («u_cells» .entry)) «u_width» «u_records») (t .m) (now (places .entry)) (now (texts .entry))) (records - from .record) (from .record) ⌝ }
+    ensures { λ x. ⌜ x ≡ firstFrom (breaksTarget (table (now (s .entry)) (now (cells .entry)) width 0) (t .k) (t .when) (table (now (u .entry)) (now («u_cells» .entry)) «u_width» «u_records») (t .m) (now (places .entry)) (now (texts .entry))) (records - from) from ⌝ }
 {
     let mut sums = [0u32; 4096];
     let mut order = [0u32; 4096];
@@ -513,7 +451,8 @@ pub fn target_rule_by_order(
             texts,
         );
     }
-    let from = first_unguessed(
+    let none = [0u32; 0];
+    let from = first_unfound(
         s,
         cells,
         width,
@@ -525,8 +464,12 @@ pub fn target_rule_by_order(
         u_records,
         places,
         texts,
+        &none,
+        &none,
+        0,
+        false,
     );
-    if from.record < records {
+    if from < records {
         return unfound_from(
             s,
             cells,

@@ -12,12 +12,15 @@ is-given-requires c κs = search needs
 enum-known-rule : tie.Need-enum-known-rule
 enum-known-rule c = search needs
 
-is-one-of-requires : tie.Need-is-one-of-requires
-is-one-of-requires c κs = search needs
+cast-n : tie.Need-cast-n
+cast-n c = search needs
+
+which-of-requires : tie.Need-which-of-requires
+which-of-requires c κs = search needs
 
 returns : tie.Need-returns
 unfolding breaksField
-returns c = rw (c .before .before .before .rule .given .1, sym (c .before .before .before .before .before .is-given .ensures) ∙ c .before .if1 .taken) (ap not (c .is-one-of .ensures))
+returns c = rw (c .before .before .before .rule .given .1, sym (c .before .before .before .before .before .is-given .ensures) ∙ c .before .if1 .taken) (ap not (c .which-of .ensures))
 
 enum-known-rule-2 : tie.Need-enum-known-rule-2
 enum-known-rule-2 c = search needs
@@ -64,7 +67,8 @@ breaks-field-spec =
     (tie.spec
     is-given-requires
     enum-known-rule
-    is-one-of-requires
+    cast-n
+    which-of-requires
     returns
     enum-known-rule-2
     holds-when-requires

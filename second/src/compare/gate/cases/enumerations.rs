@@ -1,11 +1,17 @@
 //! Enumerations (36 to 47): every value of all ten in every field that takes
-//! one, and words near the right ones.
+//! one, words near the right ones, and values that repeat or come in turns.
 
+use super::long::short_record;
 use super::Cases;
-use crate::compare::draft::quoted;
+use crate::compare::draft::{quoted, Draft};
+use crate::compare::gate::set_draft::{places, SetDraft};
 use crate::compare::gate::styles::{escaped, recased};
-use crate::fields::{Enumeration, ENUMERATION_VALUES};
+use crate::fields::{fields_of, Enumeration, ENUMERATION_VALUES};
 use crate::rules::{rule, Rule};
+use crate::table::is_singleton;
+
+/// So many records have values that repeat or come in turns.
+const RUN: usize = 9;
 
 pub(super) fn add(cases: &mut Cases) {
     for mark in 36..=47 {
@@ -19,6 +25,9 @@ pub(super) fn add(cases: &mut Cases) {
             add_near(cases, file, field, value);
         }
         add_others(cases, file, field);
+        if !is_singleton(file) {
+            add_runs(cases, file, field, values);
+        }
     }
 }
 
@@ -64,5 +73,69 @@ fn add_others(cases: &mut Cases, table: usize, name: &str) {
         [b"null", b"\"\"", b"\"FIELD_00\"", b"\"FIELD_11\"", b"\"FIELD_1\"", b"\"A\""];
     for value in others {
         add_value(cases, table, name, value);
+    }
+}
+
+/// One right value in all records, and two in turns, each in some style; then
+/// another in the first, a middle or the last record: a right one, one from
+/// either side of the enumeration, one that is longer, and a null.
+fn add_runs(cases: &mut Cases, table: usize, name: &str, enumeration: Enumeration) {
+    let right: Vec<&str> = values_of(enumeration).collect();
+    let (first, last) = (right[0], right[right.len() - 1]);
+    let longer = format!("{last}_");
+    let others = [&[first, last, &longer][..], &beside(enumeration)].concat();
+    let is_nullable = fields_of(table).any(|field| field.name == name && field.nullable);
+    for turns in [[first, first], [last, last], [first, last], [last, first]] {
+        let records: Vec<Draft> = (0..RUN)
+            .map(|number| {
+                let value = in_some_style(cases, turns[number % 2]);
+                short_record(table, number).with_value(name, &value)
+            })
+            .collect();
+        let set = SetDraft::empty().with_records(table, &records);
+        cases.judge_set(&set);
+        for at in places(RUN) {
+            for other in &others {
+                let value = in_some_style(cases, other);
+                cases.judge_set(&set.with_value(table, at, name, Some(&value)));
+            }
+            if is_nullable {
+                cases.judge_set(&set.with_value(table, at, name, Some(b"null")));
+            }
+        }
+    }
+}
+
+/// The values right before and right behind the enumeration's own, of another.
+fn beside(enumeration: Enumeration) -> Vec<&'static str> {
+    let is_own = |(of, _): &(Enumeration, &str)| *of == enumeration;
+    let first = ENUMERATION_VALUES.iter().position(is_own);
+    let last = ENUMERATION_VALUES.iter().rposition(is_own);
+    let before = first.and_then(|at| at.checked_sub(1));
+    let behind = last.map(|at| at + 1);
+    let numbers = [before, behind].into_iter().flatten();
+    numbers.filter_map(|at| ENUMERATION_VALUES.get(at)).map(|(_, value)| *value).collect()
+}
+
+/// As it is, in some case, or in some case and with escapes.
+fn in_some_style(cases: &mut Cases, value: &str) -> Vec<u8> {
+    let plain = quoted(value);
+    let cased = recased(&plain, &mut cases.random);
+    match cases.random.below(3) {
+        0 => plain,
+        1 => cased,
+        _ => escaped(&cased, &mut cases.random),
+    }
+}
+
+#[cfg(test)]
+mod tests {
+    use super::beside;
+    use crate::fields::Enumeration;
+
+    #[test]
+    fn values_beside_an_enumeration_are_others() {
+        assert_eq!(beside(Enumeration::ContractorIDCodeType), ["DAYS"]);
+        assert_eq!(beside(Enumeration::DurationUnits), ["CAGE", "ACTIVITY"]);
     }
 }

@@ -8,13 +8,17 @@ use super::targets::{links, Link};
 use super::Cases;
 use crate::bundle::FILES;
 use crate::compare::draft::{quoted, Draft};
-use crate::compare::gate::set_draft::SetDraft;
+use crate::compare::gate::set_draft::{places, SetDraft};
+use crate::compare::gate::styles::shuffle;
 use crate::fields::{fields_of, Type};
 use crate::rules::{rule, Rule};
 use crate::table::{is_singleton, MOST_RECORDS};
 
 /// Long enough for what a short table may miss.
 const LONG: usize = 300;
+
+/// Enough for targets that are far from each other.
+const MIXED: usize = 60;
 
 pub(super) fn add(cases: &mut Cases) {
     for table in (1..FILES).filter(|table| !is_singleton(*table)) {
@@ -30,6 +34,7 @@ pub(super) fn add(cases: &mut Cases) {
     add_late_keys(cases, 7, 1, MOST_RECORDS / 4);
     for link in links() {
         add_late_targets(cases, &link);
+        add_mixed_targets(cases, &link);
     }
     add_outlines(cases);
 }
@@ -104,16 +109,40 @@ fn add_late_keys(cases: &mut Cases, table: usize, part: usize, count: usize) {
 /// The searched table has the IDs in the opposite order. All are found, or all
 /// but the last or the first one.
 fn add_late_targets(cases: &mut Cases, link: &Link) {
-    let asking: Vec<Draft> = (0..LONG).map(|number| asking_record(link, number)).collect();
-    let searched = (0..LONG).rev().map(|number| {
-        let id = quoted(&id(number));
-        short_record(link.other, number).with_value(link.other_field, &id)
-    });
-    let searched: Vec<Draft> = searched.collect();
-    let set = SetDraft::empty().with_records(link.file, &asking);
+    let set = asking_set(link, LONG);
+    let searched: Vec<Draft> =
+        (0..LONG).rev().map(|number| searched_record(link, number)).collect();
     for found in [&searched[..], &searched[1..], &searched[..LONG - 1]] {
         cases.judge_set(&set.with_records(link.other, found));
     }
+}
+
+/// The searched table has the IDs in no order, all of them or those from the
+/// middle on. All are found, or all but the first, a middle or the last one.
+fn add_mixed_targets(cases: &mut Cases, link: &Link) {
+    let set = asking_set(link, MIXED);
+    for first in [0, MIXED / 2] {
+        let mut searched: Vec<Draft> =
+            (0..MIXED).map(|number| searched_record(link, number)).collect();
+        shuffle(&mut searched[first..], &mut cases.random);
+        cases.judge_set(&set.with_records(link.other, &searched));
+        for missing in places(MIXED) {
+            let missing = quoted(&id(missing));
+            let mut found = searched.clone();
+            found.retain(|record| record.value(link.other_field) != Some(&missing[..]));
+            cases.judge_set(&set.with_records(link.other, &found));
+        }
+    }
+}
+
+/// So many records that ask for one ID each.
+fn asking_set(link: &Link, count: usize) -> SetDraft {
+    let asking: Vec<Draft> = (0..count).map(|number| asking_record(link, number)).collect();
+    SetDraft::empty().with_records(link.file, &asking)
+}
+
+fn searched_record(link: &Link, number: usize) -> Draft {
+    short_record(link.other, number).with_value(link.other_field, &quoted(&id(number)))
 }
 
 /// Its type is the one that makes a task ask for a place in the outline.

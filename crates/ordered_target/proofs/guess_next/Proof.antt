@@ -1,7 +1,9 @@
--- `ordered_target::guess` meets its contract: what it finds was seen to be a target.
+-- `ordered_target::guess_next` meets its contract: what it finds was seen to be a target.
 use borrow.Author.Needs.{needs}
-use Rattle.ordered_target.proofs.guess.Statement.{statement}
-use Rattle.ordered_target.proofs.guess.Tie as tie
+use mathlib.Core.Path.{sym}
+use mathlib.Core.Bool.{true≢false}
+use Rattle.ordered_target.proofs.guess_next.Statement.{statement}
+use Rattle.ordered_target.proofs.guess_next.Tie as tie
 
 add-next : tie.Need-add-next
 add-next c = search needs
@@ -18,14 +20,11 @@ is-target-requires-2 c κs = search needs
 returns-2 : tie.Need-returns-2
 returns-2 c = λ e. c .before .is-target2 .ensures (c .if3 .taken)
 
-guess-around-requires : tie.Need-guess-around-requires
-guess-around-requires c κs = search needs
-
 returns-3 : tie.Need-returns-3
-returns-3 c = c .guess-around .ensures
+returns-3 c = λ e. absurd (true≢false (sym e))
 
-pub guess-spec : {M : Type 1} → statement M
-guess-spec =
+pub guess-next-spec : {M : Type 1} → statement M
+guess-next-spec =
     tie.close
     (tie.spec
     add-next
@@ -33,5 +32,4 @@ guess-spec =
     returns
     is-target-requires-2
     returns-2
-    guess-around-requires
     returns-3)
