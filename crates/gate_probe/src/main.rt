@@ -15,6 +15,7 @@
 //   8:        as 7, in such a workspace
 // The program ends where the input does, and at a case that is too long or asks nothing known.
 use board::Board;
+use board::fresh;
 use bundle::file_part;
 use bundle::file_state;
 use bundle_bytes::word_at;
@@ -40,11 +41,6 @@ use parts::part;
 use program_io::fill;
 use reason_answer::Reason;
 
-// What the case of this head asks: whether in a lent workspace, of which file, with new bytes or to withdraw it.
-fn is_lent(head: &[u8]) -> bool {
-    3 < word_at(head, 0)
-}
-
 fn file_asked(head: &[u8]) -> usize {
     word_at(head, 8) as usize
 }
@@ -53,20 +49,61 @@ fn is_given(head: &[u8]) -> bool {
     word_at(head, 12) == 1
 }
 
-// ---- The calls in a workspace with numbers in it that no file leaves there
-
-fn lent_judged(bundle: &[u8]) -> Verdict {
-    let mut work = [0xA5A5A5A5u32; 794702];
-    judge_in(bundle, &mut work)
+// Whether a judgement is asked for, which has no board and no new bytes handed to it.
+fn is_judged(head: &[u8]) -> bool {
+    word_at(head, 0) % 4 == 0
 }
 
-fn lent_tried<'a>(head: &[u8], bundle: &'a [u8], board: Board, new: &'a [u8]) -> Verdict {
-    let mut work = [0xA5A5A5A5u32; 794702];
+// Whether a change is to be made, into an output.
+fn is_made(head: &[u8]) -> bool {
+    word_at(head, 0) % 4 == 2
+}
+
+fn board_asked(head: &[u8]) -> Board {
+    if is_judged(head) {
+        return fresh();
+    }
+    read_board()
+}
+
+fn length_asked(head: &[u8]) -> usize {
+    if is_judged(head) {
+        return 0;
+    }
+    word_at(head, 16) as usize
+}
+
+fn room_asked(head: &[u8]) -> usize {
+    if is_made(head) {
+        return word_at(head, 20) as usize;
+    }
+    0
+}
+
+// ---- The three calls, by what is asked: 0, 1 and 2 with memory of their own, 4, 5 and 6 in a lent workspace
+
+fn verdict_in<'a>(
+    head: &[u8],
+    bundle: &'a [u8],
+    board: Board,
+    new: &'a [u8],
+    out: &mut [u8],
+    work: &mut [u32],
+) -> Verdict {
+    let op = word_at(head, 0);
     let k = file_asked(head);
-    try_in(bundle, board, k, is_given(head), new, &mut work)
+    let present = is_given(head);
+    if op == 4 {
+        return judge_in(bundle, work);
+    }
+    if op == 5 {
+        return try_in(bundle, board, k, present, new, work);
+    }
+    make_in(bundle, board, k, present, new, out, work)
 }
 
-fn lent_made<'a>(
+// One workspace for all three, with numbers in it that no file leaves there: three would be more than a stack of 8 MB.
+fn lent_verdict<'a>(
     head: &[u8],
     bundle: &'a [u8],
     board: Board,
@@ -74,8 +111,29 @@ fn lent_made<'a>(
     out: &mut [u8],
 ) -> Verdict {
     let mut work = [0xA5A5A5A5u32; 794702];
+    verdict_in(head, bundle, board, new, out, &mut work)
+}
+
+fn verdict_of<'a>(
+    head: &[u8],
+    bundle: &'a [u8],
+    board: Board,
+    new: &'a [u8],
+    out: &mut [u8],
+) -> Verdict {
+    let op = word_at(head, 0);
     let k = file_asked(head);
-    make_in(bundle, board, k, is_given(head), new, out, &mut work)
+    let present = is_given(head);
+    if 3 < op {
+        return lent_verdict(head, bundle, board, new, out);
+    }
+    if op == 0 {
+        return judge(bundle);
+    }
+    if op == 1 {
+        return try_change(bundle, board, k, present, new);
+    }
+    make_change(bundle, board, k, present, new, out)
 }
 
 fn lent_reason(bundle: &[u8], mark: usize) -> Reason {
@@ -83,68 +141,62 @@ fn lent_reason(bundle: &[u8], mark: usize) -> Reason {
     reason_in(bundle, mark, &mut work)
 }
 
-// ---- The calls as they are asked for
+// ---- A call and its answer. Each function from here to the verdict is called from one place, so that the compiler puts all of
+// them into one frame and the workspaces into one place: two would be more than a stack of 8 MB.
 
-fn tried<'a>(head: &[u8], bundle: &'a [u8], board: Board, new: &'a [u8]) -> Verdict {
-    if is_lent(head) {
-        return lent_tried(head, bundle, board, new);
-    }
-    try_change(bundle, board, file_asked(head), is_given(head), new)
-}
-
-fn made<'a>(head: &[u8], bundle: &'a [u8], board: Board, new: &'a [u8], out: &mut [u8]) -> Verdict {
-    if is_lent(head) {
-        return lent_made(head, bundle, board, new, out);
-    }
-    make_change(bundle, board, file_asked(head), is_given(head), new, out)
-}
-
-fn write_verdict(verdict: Verdict) -> bool {
-    let board = verdict.board;
-    write_board(verdict.refusal, board)
-}
-
-// Makes a change into the whole of an output.
-fn make<'a>(head: &[u8], bundle: &'a [u8], board: Board, new: &'a [u8], out: &mut [u8]) -> bool {
-    lay(out, word_at(head, 24) as usize);
-    let verdict = made(head, bundle, board, new, out);
-    let after = verdict.board;
-    if write_sized(verdict.refusal, verdict.length, after) {
-        return write_part(out);
-    }
-    false
-}
-
-// The same into the front of an output, where it is long enough.
-fn make_front<'a>(
+// Writes the refusal and the board, and of a change that is made the new length between them and the output behind them.
+fn answer_verdict<'a>(
     head: &[u8],
     bundle: &'a [u8],
     board: Board,
     new: &'a [u8],
     out: &mut [u8],
 ) -> bool {
-    let room = word_at(head, 20) as usize;
+    lay(out, word_at(head, 24) as usize);
+    let verdict = verdict_of(head, bundle, board, new, out);
+    let after = verdict.board;
+    if is_made(head) {
+        if write_sized(verdict.refusal, verdict.length, after) {
+            return write_part(out);
+        }
+        return false;
+    }
+    write_board(verdict.refusal, after)
+}
+
+// The call with the front of an output, where it is long enough.
+fn answer_front<'a>(
+    head: &[u8],
+    bundle: &'a [u8],
+    board: Board,
+    new: &'a [u8],
+    out: &mut [u8],
+) -> bool {
+    let room = room_asked(head);
     if out.len() < room {
         return false;
     }
-    make(head, bundle, board, new, &mut out[..room])
+    answer_verdict(head, bundle, board, new, &mut out[..room])
 }
 
-// Tries a change, or makes it where `makes` says so, once the board and the new bytes are read.
-fn change(makes: bool, head: &[u8], bundle: &[u8], news: &mut [u8], out: &mut [u8]) -> bool {
-    let board = read_board();
-    let n = word_at(head, 16) as usize;
+// The same, once the board and the new bytes are read.
+fn answer_call(head: &[u8], bundle: &[u8], news: &mut [u8], out: &mut [u8]) -> bool {
+    let board = board_asked(head);
+    let n = length_asked(head);
     if !fill_front(news, n) {
         return false;
     }
-    let new = part(news, 0, n);
-    if makes {
-        return make_front(head, bundle, board, new, out);
-    }
-    write_verdict(tried(head, bundle, board, new))
+    answer_front(head, bundle, board, part(news, 0, n), out)
 }
 
 // ---- The cases
+
+fn tell(lent: bool, bundle: &[u8], mark: usize) -> bool {
+    if lent {
+        return write_reason(lent_reason(bundle, mark));
+    }
+    write_reason(reason(bundle, mark))
+}
 
 fn look_up(bundle: &[u8], k: usize) -> bool {
     write_file(file_state(bundle, 20, k), file_part(bundle, 20, k))
@@ -153,15 +205,10 @@ fn look_up(bundle: &[u8], k: usize) -> bool {
 // Answers what is asked of a bundle; whether to go on.
 fn answer_case(head: &[u8], bundle: &[u8], news: &mut [u8], out: &mut [u8]) -> bool {
     match word_at(head, 0) {
-        0 => write_verdict(judge(bundle)),
-        1 => change(false, head, bundle, news, out),
-        2 => change(true, head, bundle, news, out),
+        0 | 1 | 2 | 4 | 5 | 6 => answer_call(head, bundle, news, out),
         3 => look_up(bundle, file_asked(head)),
-        4 => write_verdict(lent_judged(bundle)),
-        5 => change(false, head, bundle, news, out),
-        6 => change(true, head, bundle, news, out),
-        7 => write_reason(reason(bundle, file_asked(head))),
-        8 => write_reason(lent_reason(bundle, file_asked(head))),
+        7 => tell(false, bundle, file_asked(head)),
+        8 => tell(true, bundle, file_asked(head)),
         _ => false,
     }
 }

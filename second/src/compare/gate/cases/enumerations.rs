@@ -14,10 +14,7 @@ use crate::table::is_singleton;
 const RUN: usize = 9;
 
 pub(super) fn add(cases: &mut Cases) {
-    for mark in 36..=47 {
-        let Rule::OneOf { file, field, values } = rule(mark) else {
-            unreachable!("marks 36 to 47 are enumerations");
-        };
+    for (file, field, values) in enumerated() {
         for (_, value) in ENUMERATION_VALUES {
             add_in_each_style(cases, file, field, value);
         }
@@ -25,10 +22,24 @@ pub(super) fn add(cases: &mut Cases) {
             add_near(cases, file, field, value);
         }
         add_others(cases, file, field);
-        if !is_singleton(file) {
-            add_runs(cases, file, field, values);
-        }
     }
+}
+
+/// Values that repeat or come in turns, in each table's field of an enumeration.
+pub(super) fn add_all_runs(cases: &mut Cases) {
+    for (file, field, values) in enumerated().filter(|(file, ..)| !is_singleton(*file)) {
+        add_runs(cases, file, field, values);
+    }
+}
+
+/// The file, the field and the values of each mark from 36 to 47.
+fn enumerated() -> impl Iterator<Item = (usize, &'static str, Enumeration)> {
+    (36..=47).map(|mark| {
+        let Rule::OneOf { file, field, values } = rule(mark) else {
+            unreachable!("marks 36 to 47 are enumerations");
+        };
+        (file, field, values)
+    })
 }
 
 fn values_of(enumeration: Enumeration) -> impl Iterator<Item = &'static str> {

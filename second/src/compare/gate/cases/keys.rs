@@ -20,7 +20,6 @@ pub(super) fn add(cases: &mut Cases) {
     add_pairs(cases, 7, "Ordinal", &ORDINALS);
     add_pairs(cases, 8, "ExceptionDate", &DATES);
     add_many_ordinals(cases);
-    add_written_ordinals(cases);
 }
 
 /// Each choice among the key's parts is shared with an earlier record; only a
@@ -223,7 +222,7 @@ fn add_many_ordinals(cases: &mut Cases) {
 }
 
 /// Every two forms of a short Ordinal, before a comma and before the record's end.
-fn add_written_ordinals(cases: &mut Cases) {
+pub(super) fn add_written_ordinals(cases: &mut Cases) {
     let record = cases.base.records(7)[0].clone();
     // A field that wasn't there becomes the last one.
     for record in [record.without("Ordinal"), record] {

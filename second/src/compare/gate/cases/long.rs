@@ -34,7 +34,6 @@ pub(super) fn add(cases: &mut Cases) {
     add_late_keys(cases, 7, 1, MOST_RECORDS / 4);
     for link in links() {
         add_late_targets(cases, &link);
-        add_mixed_targets(cases, &link);
     }
     add_outlines(cases);
 }
@@ -114,6 +113,13 @@ fn add_late_targets(cases: &mut Cases, link: &Link) {
         (0..LONG).rev().map(|number| searched_record(link, number)).collect();
     for found in [&searched[..], &searched[1..], &searched[..LONG - 1]] {
         cases.judge_set(&set.with_records(link.other, found));
+    }
+}
+
+/// Targets in no order, for every link.
+pub(super) fn add_all_mixed_targets(cases: &mut Cases) {
+    for link in links() {
+        add_mixed_targets(cases, &link);
     }
 }
 

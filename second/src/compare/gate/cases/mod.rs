@@ -63,6 +63,12 @@ pub fn all_cases(seed: u64) -> Vec<GateCase> {
     runs::add(&mut cases);
     lookups::add(&mut cases);
     reasons::add(&mut cases);
+    // These came later and stand behind the others, which so keep their places and random numbers.
+    keys::add_written_ordinals(&mut cases);
+    outline::add_all_written_levels(&mut cases);
+    enumerations::add_all_runs(&mut cases);
+    long::add_all_mixed_targets(&mut cases);
+    one_sum::add_all_pairs(&mut cases);
     cases.list
 }
 

@@ -17,6 +17,10 @@ pub(super) fn add(cases: &mut Cases) {
         add_keys(cases, 14, "SuccessorTaskID", count);
         add_targets(cases, count);
     }
+}
+
+/// Keys that start with two IDs and have one sum over both.
+pub(super) fn add_all_pairs(cases: &mut Cases) {
     for table in [12, 13, 14, 18, 19] {
         add_pairs(cases, table, TAILS.len());
         add_pairs(cases, table, 300);

@@ -22,9 +22,6 @@ pub(super) fn add(cases: &mut Cases) {
     for levels in ODD_RUNS {
         add_run(cases, levels);
     }
-    for count in STAIRS {
-        add_written_levels(cases, count);
-    }
     for _ in 0..LONGER_RUNS {
         add_longer(cases);
     }
@@ -180,6 +177,13 @@ fn tasks_with_one_other(count: usize, other: usize) -> Vec<Draft> {
 /// behind 8 a 9 with the row above as its parent holds, and behind 9 a 10, where
 /// a 1 read for it breaks 79.
 const STAIRS: [usize; 4] = [0, 1, 8, 9];
+
+/// A Level in each form behind so many records.
+pub(super) fn add_all_written_levels(cases: &mut Cases) {
+    for count in STAIRS {
+        add_written_levels(cases, count);
+    }
+}
 
 /// The Level in each form, before a comma and before the record's end, with no
 /// parent and with the row above, or itself if there is none.
