@@ -102,7 +102,8 @@ pub fn cells_in<'a>(forms: &[u32], fields: &[u32], work: &'a [u32], k: usize) ->
     &work[..0]
 }
 
-fn clear(cells: &mut [u32])
+// Makes every cell 0.
+pub fn clear(cells: &mut [u32])
     ensures { λ _. ⌜ now (cells .exit) ≡ zeros (length (now (cells .entry))) ⌝ }
 {
     let mut i = 0;

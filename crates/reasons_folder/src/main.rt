@@ -4,41 +4,17 @@
 use folder::argument;
 use folder::gather;
 use gate_lists::Which;
-use gate_option::Named;
-use gate_option::gate_named;
+use gate_option::Asked;
+use gate_option::asked_by;
 use parts::part;
 use program_io::complain;
 use program_io::print;
 use reason_text::reasons;
 
-// By which gate, and which argument names the folder; or nothing that can be told.
-enum Asked {
-    Of { which: Which, folder: usize },
-    Nothing,
-}
-
-// The gate that the first argument names.
-fn first_named() -> Named {
-    let mut word = [0u8; 16];
-    let n = os::arg(1, &mut word);
-    gate_named(part(&word, 0, n))
-}
-
 fn what_is_asked() -> Asked {
-    let count = os::arg_count();
-    if count == 2 {
-        return Asked::Of {
-            which: Which::Schedule,
-            folder: 1,
-        };
-    }
-    if count != 3 {
-        return Asked::Nothing;
-    }
-    match first_named() {
-        Named::Gate { which } => Asked::Of { which, folder: 2 },
-        Named::Nothing => Asked::Nothing,
-    }
+    let mut first = [0u8; 16];
+    let n = os::arg(1, &mut first);
+    asked_by(os::arg_count(), part(&first, 0, n))
 }
 
 fn print_reasons(which: Which, bundle: &[u8], work: &mut [u32], text: &mut [u8]) {
@@ -97,7 +73,7 @@ fn usage() {
 
 fn main() {
     match what_is_asked() {
-        Asked::Of { which, folder } => judge_with_memory(which, folder),
-        Asked::Nothing => usage(),
+        Asked::Of { which, named } => judge_with_memory(which, named),
+        Asked::Unclear => usage(),
     }
 }

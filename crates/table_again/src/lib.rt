@@ -1,10 +1,10 @@
 // A table of a set read once more, for whoever needs the number of its records beside its cells.
 ghost use mathlib.Core.Path.{_≡_};
 ghost use lib.ListN.{length};
-ghost use Rattle.gate_marks.specs.Work.{zeros};
 ghost use Rattle.table_again.specs.Again.{readAgain};
 use bundle::is_omitted;
 use bundle::part_at;
+use gate_marks::clear;
 use table_fields::field_names;
 use table_fields::field_rows;
 use table_file::FileRead;
@@ -15,16 +15,6 @@ use table_rows::rows_after;
 
 // The form of a file that is an array of records.
 const RECORDS: u32 = 0;
-
-fn clear(cells: &mut [u32])
-    ensures { λ _. ⌜ now (cells .exit) ≡ zeros (length (now (cells .entry))) ⌝ }
-{
-    let mut i = 0;
-    while i < cells.len() {
-        cells[i] = 0;
-        i += 1;
-    }
-}
 
 // Reads file k of a bundle into lent cells, whatever these held; answers its mark and the number of its
 // records.
