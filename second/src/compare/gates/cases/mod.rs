@@ -61,6 +61,7 @@ pub fn all_cases(seed: u64) -> Vec<GatesCase> {
         changes::add(&mut cases, &ground);
         runs::add(&mut cases, &ground);
     }
+    profile::add_fronts(&mut cases);
     cases.list
 }
 

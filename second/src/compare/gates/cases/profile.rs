@@ -12,6 +12,9 @@ use crate::rules::BASELINE_FIELDS;
 const SCHEDULES: usize = 10;
 const ASSIGNMENTS: usize = 19;
 
+/// The files that the profile's own marks read, each with its marks.
+const SPOILT: [(usize, &[usize]); 2] = [(SCHEDULES, &[81, 82, 83]), (ASSIGNMENTS, &[84])];
+
 /// The sample with a baseline for each task and no progress.
 pub(super) fn baseline_set() -> SetDraft {
     let mut set = SetDraft::accepted();
@@ -144,7 +147,7 @@ pub(super) fn add(cases: &mut Cases) {
         "BaselineFinishDate",
         Some(b"\"2020-01-01\""),
     )));
-    for (file, marks) in [(SCHEDULES, &[81, 82, 83][..]), (ASSIGNMENTS, &[84])] {
+    for (file, marks) in SPOILT {
         for values in spoilings(file) {
             for at in places(base.records(file).len()) {
                 let set = spoilt(&base, file, at, &values);
@@ -172,6 +175,23 @@ fn add_apart(cases: &mut Cases, set: &SetDraft, file: usize, marks: &[usize]) {
         0 => cases.judge_and_ask(&alone, mark),
         1 => cases.judge_and_ask(&alone.with(2, b"").with(4, b""), mark),
         _ => cases.judge_and_ask(&styled, mark),
+    }
+}
+
+/// Each of these files by itself and behind files without bytes, whatever the seed.
+pub(super) fn add_fronts(cases: &mut Cases) {
+    let base = baseline_set();
+    for (file, marks) in SPOILT {
+        for values in spoilings(file) {
+            let alone = files_of(&spoilt(&base, file, 0, &values).only(&[file]));
+            let behind_empty = alone.with(2, b"").with(4, b"");
+            for files in [alone, behind_empty] {
+                let bundle = cases.judge_files(&files);
+                for mark in marks {
+                    cases.reason(Which::Baseline, &bundle, *mark);
+                }
+            }
+        }
     }
 }
 
