@@ -39,7 +39,7 @@ use Rattle.table_file.specs.Table.{
 use Rattle.table_file.proofs.Laws.{element-in}
 
 -- ---- an element: one that is read whole stands behind fewer than 4,096 records
-abbrev Below : ℕ → Reading → Type 0
+abbrev pub Below : ℕ → Reading → Type 0
 Below r (Whole end) = r < 4096
 Below r (Fault kind place) = Unit {0}
 
@@ -48,7 +48,7 @@ below-all r (Whole end) l = l
 below-all r (Fault kind place) l = tt
 
 -- where no object stands nothing is read whole
-below-other : (s : List ℕ) (at r : ℕ) → Below r (notObjectAt s at)
+pub below-other : (s : List ℕ) (at r : ℕ) → Below r (notObjectAt s at)
 unfolding notObjectAt notObjectOf
 below-other s at r = either (Below r) (opens (byteAt s at)) _ _ tt (go (tokenAt s at))
   where

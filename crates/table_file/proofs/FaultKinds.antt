@@ -45,7 +45,7 @@ pub record Room (records : ℕ) (fields : List Field) (s cells : List ℕ) : Typ
 
 -- a singleton has one record, any other table 4,096 at most
 module _ (fields : List Field) (s cells : List ℕ) (single : Bool) (all : Room (cond single 1 4096) fields s cells) where
-  room-at : (now : List ℕ) (r : ℕ) → length now ≡ length cells → r < cond single 1 4096 → recordHasRoom s now (r * (2 * length fields)) (length fields) ≡ true
+  pub room-at : (now : List ℕ) (r : ℕ) → length now ≡ length cells → r < cond single 1 4096 → recordHasRoom s now (r * (2 * length fields)) (length fields) ≡ true
   room-at now r e l =
       room-is s now (r * (2 * length fields)) (length fields) (all .small) (all .few)
       (omega (arith, all .room, mul-le-mul-right {m = r + 1} {n = cond single 1 4096} (2 * length fields) (omega arith), add-mul r 1 (2 * length fields)))

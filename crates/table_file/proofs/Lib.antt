@@ -5,3 +5,4 @@ pub mod Kept
 pub mod FaultKinds
 pub mod Many
 pub mod Laws
+pub mod Before

@@ -135,7 +135,7 @@ module _ (base n : ℕ) where
       kept-then cells _ _ (kept-set cells (base + 2 * k) _ (omega arith) (omega arith))
       (kept-set (set cells (base + 2 * k) _) (base + 2 * k + 1) _ (omega arith) (omega arith))
 
-  kept-cleared : (cells : List ℕ) (m : ℕ) → m ≤ n → Kept base n cells (cleared cells base m)
+  pub kept-cleared : (cells : List ℕ) (m : ℕ) → m ≤ n → Kept base n cells (cleared cells base m)
   unfolding cleared
   kept-cleared cells zero l = kept-all cells
   kept-cleared cells (suc m) l =

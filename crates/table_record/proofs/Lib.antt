@@ -3,3 +3,4 @@ pub mod Bounds
 pub mod Cases
 pub mod FaultKinds
 pub mod Laws
+pub mod Before
