@@ -11,9 +11,9 @@ use lib.ListN.{length, drop}
 use lib.Dec.{eqb, lit≤}
 use Rattle.json_bytes.specs.Reads.{byteAt}
 use Rattle.json_bytes.specs.declared.Reading.the-variants.{Whole}
-use Rattle.json_bytes.proofs.Laws.{inside, run-more, run-stops, run-ends}
+use Rattle.json_bytes.proofs.Laws.{inside, by-test, run-more, run-stops, run-ends}
 use Rattle.json_number.specs.Number.{isDigit, digitsAt, formed, trimmedAt, fractionAt, coefficientAt, exponentAt, largest, withinLimits, valueOf, withExponent, withCoefficient, numberAt, wholeOf, integerOf}
-use Rattle.json_number.specs.Alone.{goesOn}
+use Rattle.json_number.specs.Alone.{goesOn, oneDigit}
 use Rattle.json_number.specs.declared.Coefficient.the-variants.{Digits}
 use Rattle.json_number.specs.declared.Exponent.the-variants.{Power}
 use Rattle.json_number.specs.declared.Value.{Value}
@@ -81,6 +81,9 @@ module _ (s : List ℕ) (i : ℕ) (d : isDigit (byteAt s i) ≡ true) where
         go (no z) =
             some-digits s i (byteAt s i) refl z (sym one-ends) (omega arith) ∙ ap (fractionAt s (i + 1)) one-forms
 
+pub digit-coefficient : (s : List ℕ) (i : ℕ) → isDigit (byteAt s i) ≡ true → isDigit (byteAt s (i + 1)) ≡ false → coefficientAt s i ≡ fractionAt s (i + 1) (byteAt s i - 48)
+digit-coefficient s i d n = one-coefficient s i d n
+
 -- ---- The number
 pub digit-alone : (s : List ℕ) (negative : Bool) (i : ℕ) → isDigit (byteAt s i) ≡ true → goesOn (byteAt s (i + 1)) ≡ false → withCoefficient s negative (coefficientAt s i) ≡ record { reading = Whole (i + 1); value = valueOf negative (byteAt s i - 48) 0 0 false 0 }
 unfolding withCoefficient withExponent
@@ -118,10 +121,38 @@ own-integer c l = ap integerOf (own-value c l) ∙ go (ℕ-discrete c 0)
     go (yes z) = whole-zero false c 15 within z ∙ ap (Is false) (sym z)
     go (no n) = whole-raised false c 15 0 1 within refl refl n l ∙ ap (Is false) (omega arith)
 
--- the Integer of a digit that stands alone, from what the code has in hand: the digit b, the byte n behind it, and b as a
--- wider number w
-pub alone-integer : (s : List ℕ) (i : ℕ) {b n w : ℕ} → b ≡ byteAt s i → isDigit b ≡ true → n ≡ byteAt s (i + 1) → goesOn n ≡ false → w ≡ b → Is false (w - 48) ≡ integerOf (numberAt s i .value)
-alone-integer s i {b} {n} {w} is d behind stops wide =
-    let range : (48 ≤ b) × (b ≤ 57) = digit-range b d in
-    let number : record { reading = Whole (i + 1); value = valueOf false (w - 48) 0 0 false 0 } ≡ numberAt s i = alone-is s false i is d behind stops wide refl ∙ sym (number-plain s i b is (omega (arith, range .0))) in
-    sym (own-integer (w - 48) (omega (arith, range .1, wide))) ∙ ap (λ (v : Number). integerOf (v .value)) number
+-- the Integer of a digit that stands alone
+alone-integer : (s : List ℕ) (i : ℕ) → isDigit (byteAt s i) ≡ true → goesOn (byteAt s (i + 1)) ≡ false → Is false (byteAt s i - 48) ≡ integerOf (numberAt s i .value)
+alone-integer s i d stops =
+    let range : (48 ≤ byteAt s i) × (byteAt s i ≤ 57) = digit-range (byteAt s i) d in
+    let number : numberAt s i ≡ record { reading = Whole (i + 1); value = valueOf false (byteAt s i - 48) 0 0 false 0 } = number-plain s i (byteAt s i) refl (omega (arith, range .0)) ∙ digit-alone s false i d stops in
+    sym (own-integer (byteAt s i - 48) (omega (arith, range .1))) ∙ ap (λ (v : Number). integerOf (v .value)) (sym number)
+
+-- what decides the digit, from what the code has in hand: the byte b, the byte n behind it, and b as a wider number w
+module _ (s : List ℕ) (i : ℕ) {b : ℕ} (is : b ≡ byteAt s i) where
+  pub no-digit : isDigit b ≡ false → oneDigit s i ≡ 10
+  unfolding oneDigit
+  no-digit e = rw (← is, e)
+
+  module _ (d : isDigit b ≡ true) {n : ℕ} (behind : n ≡ byteAt s (i + 1)) where
+    pub digit-goes-on : goesOn n ≡ true → oneDigit s i ≡ 10
+    unfolding oneDigit
+    digit-goes-on e = rw (← is, d, ← behind, e)
+
+    pub digit-stands : goesOn n ≡ false → {w : ℕ} → w ≡ b → oneDigit s i ≡ w - 48
+    unfolding oneDigit
+    digit-stands e wide = rw (← is, d, ← behind, e, wide)
+
+pub digit-integer : (s : List ℕ) (i : ℕ) {x : ℕ} → x ≡ oneDigit s i → x < 10 → Is false x ≡ integerOf (numberAt s i .value)
+unfolding oneDigit
+digit-integer s i {x} is small =
+    by-test Then (isDigit (byteAt s i)) _ _
+    (λ d. by-test Then (goesOn (byteAt s (i + 1))) _ _ (λ _. none) (λ stops e. ap (Is false) e ∙ alone-integer s i d stops))
+    (λ _. none)
+    is
+  where
+    Then : ℕ → Type 0
+    Then y = x ≡ y → Is false x ≡ integerOf (numberAt s i .value)
+
+    none : Then 10
+    none e = absurd (omega (arith, e, small))

@@ -5,9 +5,11 @@ use mathlib.Core.Path.{_≡_, refl}
 use mathlib.Core.Bool.{Bool, true, false}
 use mathlib.Core.List.{List, [], _∷_, map}
 use Rattle.json_number.proofs.Opens.{open-numbers}
+use Rattle.json_bytes.specs.Ascii.{codes}
 use Rattle.json_bytes.specs.declared.Reading.{Reading}
 use Rattle.json_bytes.specs.declared.Reading.the-variants.{Whole, Fault}
 use Rattle.json_number.specs.Number.{numberAt, integerOf, signOf, sameValue}
+use Rattle.json_number.specs.Short.{shortEnd}
 use Rattle.json_number.specs.declared.Value.{Value}
 use Rattle.json_number.specs.declared.Value.the-variants.{Fits, Beyond}
 use Rattle.json_number.specs.declared.Integer.{Integer}
@@ -84,3 +86,13 @@ pairs =
 pub numbers : (map read texts ≡ answers) × (map same pairs ≡ true ∷ true ∷ false ∷ false ∷ true ∷ true ∷ false ∷ [])
 unfolding open-numbers
 numbers = (refl, refl)
+
+-- where a short number ends, and 0 for a number that is none: fifteen digits and sixteen, with a point and without, an exponent,
+-- a zero before another digit, and a point or a sign with no digit behind it
+pub short-numbers : map (λ t. shortEnd (codes t) 0) ("0" ∷ "-0.5" ∷ "8400.50," ∷ "999999999999999" ∷ "0.99999999999999" ∷ []) ≡ 1 ∷ 4 ∷ 7 ∷ 15 ∷ 16 ∷ []
+unfolding open-numbers
+short-numbers = refl
+
+pub other-numbers : map (λ t. shortEnd (codes t) 0) ("9999999999999999" ∷ "0.999999999999999" ∷ "1e1" ∷ "1.5E1" ∷ "01" ∷ "1." ∷ "-" ∷ []) ≡ 0 ∷ 0 ∷ 0 ∷ 0 ∷ 0 ∷ 0 ∷ 0 ∷ []
+unfolding open-numbers
+other-numbers = refl

@@ -5,6 +5,7 @@ pub mod Digits
 pub mod Limits
 pub mod Parts
 pub mod Alone
+pub mod Short
 pub mod Places
 pub mod Laws
 pub mod Cases

@@ -1,3 +1,4 @@
 pub mod Number
 pub mod Capped
 pub mod Alone
+pub mod Short

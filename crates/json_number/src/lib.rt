@@ -7,7 +7,8 @@ ghost use Prim.Native.Nat.{ℕ, _+_, _*_, _-_, _^_, _≤_, _<_, min};
 ghost use lib.ListN.{length, drop};
 ghost use lib.Dec.{eqb};
 ghost use Rattle.json_number.specs.Number.{isDigit, digitsAt, formed, fractionAt, coefficientAt, powerAt, signedAt, exponentAt, valueOf, stoppedAt, withExponent, withCoefficient, numberAt, largest, withinLimits, wholeOf, integerOf, signOf, magnitude, sameParts, sameValue};
-ghost use Rattle.json_number.specs.Alone.{goesOn};
+ghost use Rattle.json_number.specs.Alone.{goesOn, oneDigit};
+ghost use Rattle.json_number.specs.Short.{behindSign, isShort, unlessRaised, shortBehind, shortEnd};
 ghost use Rattle.json_number.specs.Capped.{cap, cappedCoefficient, cappedExponent, Carried};
 use json_bytes::Reading;
 use json_bytes::byte_at;
@@ -393,6 +394,94 @@ pub fn number_at(s: &[u8], at: usize) -> Number
     unsigned_at(s, at, false)
 }
 
+// The first place from i on that no digit holds.
+fn digits_end(s: &[u8], i: usize) -> usize
+    ensures { λ r. ⌜ r ≡ i + digitsAt (now (s .entry)) i ⌝ }
+{
+    let mut j = i;
+    while j < s.len() {
+        if is_digit(s[j]) {
+            j += 1;
+        } else {
+            return j;
+        }
+    }
+    j
+}
+
+// Where the digits of a number begin, behind its sign.
+fn behind_sign(s: &[u8], at: usize) -> usize
+    ensures { λ r. ⌜ r ≡ behindSign (now (s .entry)) at ⌝ }
+{
+    if byte_at(s, at) == b'-' {
+        return at + 1;
+    }
+    at
+}
+
+// Whether the n digits at a place can stand before the point of a short number. A zero stands alone.
+fn is_short(s: &[u8], from: usize, n: usize) -> bool
+    ensures { λ r. ⌜ r ≡ isShort (now (s .entry)) from n ⌝ }
+{
+    if n == 0 {
+        return false;
+    }
+    if n == 1 {
+        return true;
+    }
+    if 15 < n {
+        return false;
+    }
+    byte_at(s, from) != b'0'
+}
+
+// The end of a number, unless an exponent's letter stands there: then 0.
+fn unless_raised(s: &[u8], end: usize) -> usize
+    ensures { λ r. ⌜ r ≡ unlessRaised (now (s .entry)) end ⌝ }
+{
+    let b = byte_at(s, end);
+    if b == b'e' {
+        return 0;
+    }
+    if b == b'E' {
+        return 0;
+    }
+    end
+}
+
+// The end of a short number whose digits before the point go from `from` up to `whole`. With a point its
+// fifteen digits are sixteen bytes.
+fn short_behind(s: &[u8], from: usize, whole: usize) -> usize
+    requires { ⌜ from ≤ whole ⌝ }
+    ensures { λ r. ⌜ r ≡ shortBehind (now (s .entry)) from whole ⌝ }
+{
+    if byte_at(s, whole) != b'.' {
+        return unless_raised(s, whole);
+    }
+    let first = whole + 1;
+    let end = digits_end(s, first);
+    if end == first {
+        return 0;
+    }
+    if 16 < end - from {
+        return 0;
+    }
+    unless_raised(s, end)
+}
+
+// The place behind the number at `at`, where it has at most fifteen digits and no exponent: it is then
+// within the limits, and this is known without its value. 0 for any other.
+pub fn short_end(s: &[u8], at: usize) -> usize
+    ensures { λ r. ⌜ r ≡ shortEnd (now (s .entry)) at ⌝ }
+{
+    let from = behind_sign(s, at);
+    let whole = digits_end(s, from);
+    if is_short(s, from, whole - from) {
+        return short_behind(s, from, whole);
+    }
+    0
+}
+
 // Ten to the n.
 fn ten_to(n: u32) -> u64
     requires { ⌜ n ≤ 15 ⌝ }
@@ -461,18 +550,30 @@ pub fn integer_of(v: Value) -> Integer
     }
 }
 
+// The digit that is all of the number at a place; 10 where there is none.
+pub fn one_digit(s: &[u8], at: usize) -> u64
+    ensures { λ r. ⌜ r ≡ oneDigit (now (s .entry)) at ⌝ }
+{
+    let b = byte_at(s, at);
+    if !is_digit(b) {
+        return 10;
+    }
+    if goes_on(byte_at(s, at + 1)) {
+        return 10;
+    }
+    wide(b) - 48
+}
+
 // The number at a place as an Integer. Most are one digit, whose value needs no power of ten.
 pub fn integer_at(s: &[u8], at: usize) -> Integer
     ensures { λ r. ⌜ r ≡ integerOf (numberAt (now (s .entry)) at .value) ⌝ }
 {
-    let b = byte_at(s, at);
-    if is_digit(b) {
-        if !goes_on(byte_at(s, at + 1)) {
-            return Integer::Is {
-                negative: NO_SIGN,
-                magnitude: wide(b) - 48,
-            };
-        }
+    let digit = one_digit(s, at);
+    if digit < 10 {
+        return Integer::Is {
+            negative: NO_SIGN,
+            magnitude: digit,
+        };
     }
     let value = number_at(s, at).value;
     integer_of(value)

@@ -14,10 +14,12 @@ use lib.Seq.{drop-cons, set-at, append-snoc, take-at}
 use lib.Dec.{ltb, leb, eqb}
 use Rattle.json_bytes.proofs.Laws.{by-test}
 use Rattle.json_number.specs.Number.{largest, magnitude, withinLimits, wholeOf, integerOf, numberAt}
+use Rattle.json_number.specs.Alone.{oneDigit}
 use Rattle.json_number.specs.declared.Value.{Value}
 use Rattle.json_number.specs.declared.Value.the-variants.{Fits, Beyond}
 use Rattle.json_number.specs.declared.Integer.{Integer}
 use Rattle.json_number.specs.declared.Integer.the-variants.{Is, Fraction, TooLarge}
+use Rattle.json_number.proofs.Alone.{digit-integer}
 use Rattle.rule_cells.specs.Cells.{Table, table, isGiven, startOf, integerIn, textOf, sameText, firstFrom, firstThat}
 use Rattle.rule_cells.proofs.Laws.{search-hits, search-goes-on, search-ends}
 use Rattle.rule_outline.specs.Outline.{
@@ -104,6 +106,13 @@ module _ (t : Table) (r k : ℕ) where
     pub level-too-large : x ≡ TooLarge → 0 ≡ levelOf t k r
     unfolding levelOf raised
     level-too-large e = rw (← isInteger, e)
+
+  -- a Level that is one digit
+  pub level-digit : isGiven (t .cells) (t .width) r k ≡ true → {at x : ℕ} → at ≡ startOf (t .cells) (t .width) r k → x ≡ oneDigit (t .bytes) at → x < 10 → levelZero + x ≡ levelOf t k r
+  unfolding integerIn
+  level-digit g {at} {x} place digit small =
+      let integer : Is false x ≡ integerIn t r k = rw (g, ← place) (digit-integer (t .bytes) at digit small) in
+      level-above integer refl refl
 
 -- ---- Mark 78
 module _ (before at : ℕ) where

@@ -6,10 +6,12 @@ ghost use lib.ListN.{length};
 ghost use Rattle.rule_cells.specs.Cells.{table};
 ghost use Rattle.rule_outline.specs.Outline.{levelOf, lowerBefore, parentsUpTo, parentsHaveRoom, withParents, heldIn, runBreaks, levelRule, parentShown, parentBreaks, parentRule, someOf, isTyped, parentTypeBreaks, parentTypeRule};
 use json_number::Integer;
+use json_number::one_digit;
 use rule_cells::integer_in;
 use rule_cells::is_given;
 use rule_cells::is_word;
 use rule_cells::same_in;
+use rule_cells::start_of;
 
 // Levels are kept ten to the fifteenth higher, so that none is below 0.
 const LEVEL_ZERO: u64 = 1_000_000_000_000_000;
@@ -23,10 +25,16 @@ pub struct Outline {
     pub parent: usize,
 }
 
-// The Level of record r.
+// The Level of record r. Most are one digit, which needs no Integer to be made and taken apart.
 pub fn level_of(s: &[u8], cells: &[u32], width: usize, r: usize, level: usize) -> u64
     ensures { λ x. ⌜ x ≡ levelOf (table (now (s .entry)) (now (cells .entry)) width 0) level r ⌝ }
 {
+    if is_given(cells, width, r, level) {
+        let digit = one_digit(s, start_of(cells, width, r, level));
+        if digit < 10 {
+            return LEVEL_ZERO + digit;
+        }
+    }
     match integer_in(s, cells, width, r, level) {
         Integer::Is {
             negative,

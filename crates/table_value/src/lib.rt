@@ -7,6 +7,7 @@ ghost use lib.ListN.{length};
 ghost use lib.Dec.{eqb};
 ghost use Rattle.json_bytes.specs.Reads.{literalAt};
 ghost use Rattle.json_text.specs.Text.{textRead};
+ghost use Rattle.json_number.specs.Number.{numberAt};
 ghost use Rattle.json_date.specs.Plain.{isPlainDate};
 ghost use Rattle.table_rows.specs.Types.{date};
 ghost use Rattle.table_value.specs.Value.{textType, textHeld, dateHeld, stringIn, stringValue, decimalHeld, integerHeld, numberIn, numberValue, literalIn, literalValue, startsNumber, opens, valueAt, tokenAt, notObjectAt};
@@ -22,6 +23,7 @@ use json_number::Number;
 use json_number::Value;
 use json_number::integer_of;
 use json_number::number_at;
+use json_number::short_end;
 use json_text::TextRead;
 use json_text::TextType;
 use json_text::Wrong;
@@ -196,6 +198,20 @@ fn number_value(at: usize, ty: u32, n: Number) -> ValueRead
     }
 }
 
+// The number at a place, in a field of type ty. Most in a field of type Decimal are short: they are within
+// the limits, so that only their end is looked for and no value is worked out.
+fn number_there(s: &[u8], at: usize, ty: u32) -> ValueRead
+    ensures { λ r. ⌜ r ≡ numberValue at ty (numberAt (now (s .entry)) at) ⌝ }
+{
+    if ty == DECIMAL {
+        let end = short_end(s, at);
+        if 0 < end {
+            return ValueRead::Held { end };
+        }
+    }
+    number_value(at, ty, number_at(s, at))
+}
+
 fn literal_in(s: &[u8], at: usize, ty: u32, end: usize) -> ValueRead
     ensures { λ r. ⌜ r ≡ literalIn (now (s .entry)) at ty end ⌝ }
 {
@@ -247,7 +263,7 @@ pub fn value_at(s: &[u8], at: usize, ty: u32) -> ValueRead
         return string_value(s, at, ty);
     }
     if starts_number(b) {
-        return number_value(at, ty, number_at(s, at));
+        return number_there(s, at, ty);
     }
     if is_opening(b) {
         return ValueRead::Bad {

@@ -23,15 +23,12 @@ returns c = rw (← (c .before .before .byte-at .ensures), eq-eqb _ 34 (c .befor
 starts-number-requires : tie.Need-starts-number-requires
 starts-number-requires c κs = search needs
 
-number-at-requires : tie.Need-number-at-requires
-number-at-requires c κs = search needs
-
-number-value-requires : tie.Need-number-value-requires
-number-value-requires c κs = search needs
+number-there-requires : tie.Need-number-there-requires
+number-there-requires c κs = search needs
 
 returns-2 : tie.Need-returns-2
 unfolding valueAt
-returns-2 c = rw (← (c .before .before .before .before .before .byte-at .ensures), ne-eqb _ 34 (c .before .before .before .before .if1 .left), sym (c .before .before .before .starts-number .ensures) ∙ c .before .before .if2 .taken, ← (c .before .number-at .ensures)) (c .number-value .ensures)
+returns-2 c = rw (← (c .before .before .before .before .byte-at .ensures), ne-eqb _ 34 (c .before .before .before .if1 .left), sym (c .before .before .starts-number .ensures) ∙ c .before .if2 .taken) (c .number-there .ensures)
 
 is-opening-requires : tie.Need-is-opening-requires
 is-opening-requires c κs = search needs
@@ -55,8 +52,7 @@ value-at-spec =
     string-value-requires
     returns
     starts-number-requires
-    number-at-requires
-    number-value-requires
+    number-there-requires
     returns-2
     is-opening-requires
     returns-3
