@@ -5,7 +5,7 @@ use mathlib.Core.Path.{_≡_}
 use mathlib.Core.Bool.{true, false, _&&_, _||_}
 use mathlib.Core.List.{List}
 use native.Mathlib.Omega.{arith}
-use borrow.Author.Tests.{eqb-true, ne-eqb}
+use borrow.Author.Tests.{eqb-true, ne-eqb, le-leb}
 use lib.ListN.{length, getD}
 use lib.Dec.{eqb}
 use Rattle.json_bytes.specs.Reads.{within}
@@ -80,6 +80,19 @@ month-most y m =
     by-test (λ (n : ℕ). n ≤ 31) (eqb m 2) _ _
     (λ _. by-test (λ (n : ℕ). n ≤ 31) (isLeap y) 29 28 (λ _. omega arith) (λ _. omega arith))
     (λ _. by-test (λ (n : ℕ). n ≤ 31) (eqb m 4 || (eqb m 6 || (eqb m 9 || eqb m 11))) 30 31 (λ _. omega arith) (λ _. omega arith))
+
+-- ---- and none has fewer than 28: the 28th and the days before it stand in every month
+month-least : (y m : ℕ) → 28 ≤ monthDays y m
+unfolding monthDays
+month-least y m =
+    by-test (λ (n : ℕ). 28 ≤ n) (eqb m 2) _ _
+    (λ _. by-test (λ (n : ℕ). 28 ≤ n) (isLeap y) 29 28 (λ _. omega arith) (λ _. omega arith))
+    (λ _. by-test (λ (n : ℕ). 28 ≤ n) (eqb m 4 || (eqb m 6 || (eqb m 9 || eqb m 11))) 30 31 (λ _. omega arith) (λ _. omega arith))
+
+pub day-early : (y m d : ℕ) → within 1 28 d ≡ true → within 1 (monthDays y m) d ≡ true
+unfolding within
+day-early y m d e =
+    rw (le-leb 1 d (within-from 1 28 d e), le-leb d (monthDays y m) (omega (arith, within-to 1 28 d e, month-least y m)))
 
 -- ---- a day of a date lies in years 1 to 9999, months 1 to 12 and days 1 to the month's last, 31 at most
 pub record Dated (y m d : ℕ) : Type 0 where

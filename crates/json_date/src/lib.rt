@@ -61,6 +61,10 @@ fn is_day(year: u32, month: u32, day: u32) -> bool
 {
     if is_within(1, 9999, year) {
         if is_within(1, 12, month) {
+            // Every month has 28 days, and most dates need no more.
+            if is_within(1, 28, day) {
+                return true;
+            }
             return is_within(1, month_days(year, month), day);
         }
     }
