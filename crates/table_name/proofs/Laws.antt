@@ -7,8 +7,11 @@ use mathlib.Core.List.{List, [], _∷_}
 use native.Mathlib.Nat.{add-zero}
 use native.Mathlib.Numerals.{add-one}
 use native.Mathlib.Omega.{arith}
+use borrow.Author.Tests.{eq-eqb}
+use Rattle.json_bytes.specs.Reads.{byteAt, isSpace, spacesEnd}
 use Rattle.json_bytes.specs.declared.Reading.{Reading}
-use Rattle.json_bytes.specs.declared.Reading.the-variants.{Fault}
+use Rattle.json_bytes.specs.declared.Reading.the-variants.{Whole, Fault}
+use Rattle.json_bytes.proofs.Laws.{inside, run-stops}
 use Rattle.json_text.specs.Text.{textAt, textRead}
 use Rattle.json_text.specs.declared.TextRead.{TextRead}
 use Rattle.json_text.specs.declared.TextType.the-variants.{Text}
@@ -16,8 +19,9 @@ use Rattle.json_same.specs.Same.{sameAs}
 use Rattle.json_same.specs.declared.Case.the-variants.{Kept}
 use Rattle.table_rows.specs.Rows.{listed, Field, nameStart, nameEnd, fieldNameAt as nameText, fieldAt, fieldsFrom}
 use Rattle.parts.specs.Part.{partOf}
-use Rattle.table_name.specs.Name.{indexOf, nameAt}
+use Rattle.table_name.specs.Name.{indexOf, nameAt, colonAt, nextAfter}
 use Rattle.table_name.specs.declared.NameRead.the-variants.{Unknown}
+use Rattle.table_name.specs.declared.Next.the-variants.{More}
 
 module _ (rows names : List ℕ) (count k : ℕ) where
   -- the fields from number k on: field k, and those behind it
@@ -65,3 +69,17 @@ module _ (s : List ℕ) (at : ℕ) (t : TextRead) (isText : t ≡ textRead Text 
   pub name-bad : (fields : List Field) (kind place : ℕ) → t .reading ≡ Fault kind place → nameAt fields s at ≡ Unknown kind place
   unfolding nameAt
   name-bad fields kind place e = rw (text-told (Fault kind place) e, nameAt)
+
+-- ---- a colon or a comma that no space stands before
+module _ (s : List ℕ) (end b : ℕ) (is : b ≡ byteAt s end) where
+  no-space : 0 < b → isSpace b ≡ false → spacesEnd s end ≡ end
+  unfolding spacesEnd
+  no-space h e = run-stops isSpace s end (inside s end b (sym is) h) (ap isSpace (sym is) ∙ e)
+
+  pub colon-here : b ≡ 58 → colonAt s end ≡ Whole (spacesEnd s (end + 1))
+  unfolding colonAt isSpace
+  colon-here e = rw (no-space (omega (arith, e)) (ap isSpace e), ← is, eq-eqb b 58 e)
+
+  pub comma-here : b ≡ 44 → (closing : ℕ) → nextAfter s end closing ≡ More (spacesEnd s (end + 1))
+  unfolding nextAfter isSpace
+  comma-here e closing = rw (no-space (omega (arith, e)) (ap isSpace e), ← is, eq-eqb b 44 e)

@@ -376,6 +376,11 @@ pub fn fill_hints(rows: &[u32], names: &[u8], count: usize, hints: &mut [u8])
 pub fn colon_at(s: &[u8], end: usize) -> Reading
     ensures { λ r. ⌜ r ≡ colonAt (now (s .entry)) end ⌝ }
 {
+    if byte_at(s, end) == b':' {
+        return Reading::Whole {
+            end: skip_spaces(s, end + 1),
+        };
+    }
     let colon = skip_spaces(s, end);
     if byte_at(s, colon) == b':' {
         return Reading::Whole {
@@ -406,6 +411,11 @@ pub fn first_in(s: &[u8], at: usize, closing: u8) -> Next
 pub fn next_after(s: &[u8], end: usize, closing: u8) -> Next
     ensures { λ r. ⌜ r ≡ nextAfter (now (s .entry)) end closing ⌝ }
 {
+    if byte_at(s, end) == b',' {
+        return Next::More {
+            at: skip_spaces(s, end + 1),
+        };
+    }
     let at = skip_spaces(s, end);
     let b = byte_at(s, at);
     if b == b',' {

@@ -2,13 +2,13 @@
 -- Assumes nothing.
 use Prim.Native.Nat.{ℕ, zero, suc, _+_, _-_, _*_, _^_, _≤_, _<_}
 use mathlib.Core.Path.{_≡_, refl, sym, ap, _∙_}
-use mathlib.Core.Bool.{Bool, true, false}
+use mathlib.Core.Bool.{Bool, true, false, not}
 use mathlib.Core.List.{List, []}
 use native.Mathlib.Nat.{zero-add}
 use native.Mathlib.Numerals.{add-one}
 use native.Mathlib.Omega.{arith}
-use borrow.Author.Tests.{lt-ltb, le-ltb, le-leb, lt-leb, leb-true, ltb-true}
-use lib.ListN.{length, set, List·getD-map}
+use borrow.Author.Tests.{eq-eqb, ne-eqb, lt-ltb, le-ltb, le-leb, lt-leb, leb-true, ltb-true}
+use lib.ListN.{length, getD, set, List·getD-map}
 use lib.Dec.{ltb, leb}
 use Rattle.json_bytes.specs.declared.Reading.{Reading}
 use Rattle.json_bytes.specs.declared.Reading.the-variants.{Whole, Fault}
@@ -33,6 +33,7 @@ use Rattle.table_record.specs.Record.{
   Filled,
   cellsFilled,
   startCell,
+  endCell,
   isRead,
   stored,
   cleared,
@@ -55,6 +56,18 @@ module _ (cells : List ℕ) (base : ℕ) where
   pub cleared-more : (then : List ℕ) (i : ℕ) → then ≡ cleared cells base i → set then (base + i) 0 ≡ cleared cells base (i + 1)
   unfolding cleared
   cleared-more then i e = rw (add-one i, e)
+
+-- ---- a field that holds a value lacks none, and one that holds none lacks it unless it may be null
+module _ (cells : List ℕ) (base k : ℕ) where
+  pub held-lacks : 0 < getD cells (base + 2 * k + 1) 0 → (n : Bool) → lacks n cells base k ≡ false
+  unfolding lacks endCell
+  held-lacks l true = refl
+  held-lacks l false = ne-eqb (getD cells (base + 2 * k + 1) 0) 0 (λ e. omega (arith, e))
+
+  pub none-lacks : getD cells (base + 2 * k + 1) 0 ≤ 0 → (n : Bool) → not n ≡ lacks n cells base k
+  unfolding lacks endCell
+  none-lacks l true = refl
+  none-lacks l false = sym (eq-eqb (getD cells (base + 2 * k + 1) 0) 0 (omega arith))
 
 -- ---- the fields
 module _ (rows names : List ℕ) (count k : ℕ) where

@@ -136,15 +136,15 @@ fn pair_at(
     }
 }
 
-// Whether field k must hold a value and does not.
+// Whether field k must hold a value and does not. Most hold one, which is the cheaper to see.
 fn is_lacking(rows: &[u32], k: usize, cells: &[u32], base: usize) -> bool
     requires { ⌜ base + 2 * k + 1 < length (now cells) ⌝ }
     ensures { λ r. ⌜ r ≡ lacks (nullableAt (now (rows .entry)) k) (now (cells .entry)) base k ⌝ }
 {
-    if is_nullable(rows, k) {
+    if 0 < cells[base + 2 * k + 1] {
         return false;
     }
-    cells[base + 2 * k + 1] == 0
+    !is_nullable(rows, k)
 }
 
 // Whether one of the fields does.

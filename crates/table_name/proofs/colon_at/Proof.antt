@@ -8,36 +8,53 @@ use lib.Dec.{lit<}
 use Rattle.json_bytes.proofs.Laws.{inside}
 use Rattle.json_bytes.specs.declared.Reading.the-variants.{Whole}
 use Rattle.table_name.specs.Name.{colonAt}
+use Rattle.table_name.proofs.Laws.{colon-here}
 use Rattle.table_name.proofs.colon_at.Statement.{statement}
 use Rattle.table_name.proofs.colon_at.Tie as tie
-
-skip-spaces-requires : tie.Need-skip-spaces-requires
-skip-spaces-requires c κs = search needs
 
 byte-at-requires : tie.Need-byte-at-requires
 byte-at-requires c κs = search needs
 
 add-skip-spaces : tie.Need-add-skip-spaces
-add-skip-spaces c = omega (arith, inside (now (c .before .before .before .before .args .s)) _ 58 (sym (c .before .byte-at .ensures) ∙ c .if1 .taken) (lit< tt))
+add-skip-spaces c = omega (arith, inside (now (c .before .before .before .args .s)) _ 58 (sym (c .before .byte-at .ensures) ∙ c .if1 .taken) (lit< tt))
+
+skip-spaces-requires : tie.Need-skip-spaces-requires
+skip-spaces-requires c κs = search needs
+
+returns : tie.Need-returns
+returns c = ap Whole (c .skip-spaces .ensures) ∙ sym (colon-here _ _ _ (c .before .before .byte-at .ensures) (c .before .if1 .taken))
 
 skip-spaces-requires-2 : tie.Need-skip-spaces-requires-2
 skip-spaces-requires-2 c κs = search needs
 
-returns : tie.Need-returns
-unfolding colonAt
-returns c = rw (← (c .before .before .before .skip-spaces .ensures), ← (c .before .before .byte-at .ensures), eq-eqb _ 58 (c .before .if1 .taken)) (ap Whole (c .skip-spaces2 .ensures))
+byte-at-requires-2 : tie.Need-byte-at-requires-2
+byte-at-requires-2 c κs = search needs
+
+add-skip-spaces-2 : tie.Need-add-skip-spaces-2
+add-skip-spaces-2 c = omega (arith, inside (now (c .before .before .before .before .before .before .args .s)) _ 58 (sym (c .before .byte-at2 .ensures) ∙ c .if2 .taken) (lit< tt))
+
+skip-spaces-requires-3 : tie.Need-skip-spaces-requires-3
+skip-spaces-requires-3 c κs = search needs
 
 returns-2 : tie.Need-returns-2
 unfolding colonAt
-returns-2 c = rw (← (c .before .before .skip-spaces .ensures), ← (c .before .byte-at .ensures), ne-eqb _ 58 (c .if1 .left))
+returns-2 c = rw (← (c .before .before .before .skip-spaces2 .ensures), ← (c .before .before .byte-at2 .ensures), eq-eqb _ 58 (c .before .if2 .taken)) (ap Whole (c .skip-spaces3 .ensures))
+
+returns-3 : tie.Need-returns-3
+unfolding colonAt
+returns-3 c = rw (← (c .before .before .skip-spaces2 .ensures), ← (c .before .byte-at2 .ensures), ne-eqb _ 58 (c .if2 .left))
 
 pub colon-at-spec : {M : Type 1} → statement M
 colon-at-spec =
     tie.close
     (tie.spec
-    skip-spaces-requires
     byte-at-requires
     add-skip-spaces
-    skip-spaces-requires-2
+    skip-spaces-requires
     returns
-    returns-2)
+    skip-spaces-requires-2
+    byte-at-requires-2
+    add-skip-spaces-2
+    skip-spaces-requires-3
+    returns-2
+    returns-3)
