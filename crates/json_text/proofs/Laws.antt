@@ -6,7 +6,7 @@ use mathlib.Core.Path.{_≡_, refl, sym, ap, _∙_}
 use mathlib.Core.Bool.{Bool, true, false, cond, _||_}
 use mathlib.Core.List.{List, [], _∷_}
 use native.Mathlib.Omega.{arith}
-use borrow.Author.Tests.{eq-eqb, ne-eqb, lt-ltb, le-ltb, ltb-true, ltb-false, eqb-true, eqb-false}
+use borrow.Author.Tests.{eq-eqb, ne-eqb, lt-ltb, le-ltb, ltb-true, ltb-false, eqb-true, eqb-false, not-true}
 use lib.ListN.{length, drop}
 use lib.Dec.{ltb, eqb}
 use Rattle.json_bytes.specs.Reads.{byteAt, within, leading}
@@ -15,15 +15,15 @@ use Rattle.json_bytes.specs.declared.Reading.the-variants.{Whole, Fault}
 use Rattle.json_chars.specs.Step.{stepAt}
 use Rattle.json_chars.specs.declared.Step.{Step}
 use Rattle.json_chars.specs.declared.Step.the-variants.{Char, Close, Bad}
-use Rattle.json_bytes.proofs.Laws.{within-from, within-to}
+use Rattle.json_bytes.proofs.Laws.{both-left, both-right, within-from, within-to}
 use Rattle.json_chars.proofs.Bounds.{step-good, Good}
 use Rattle.json_chars.proofs.Walk.{own-step}
-use Rattle.json_text.specs.Run.{isGraphic, Run, runEnd, edgeBehind}
+use Rattle.json_text.specs.Run.{isGraphic, Run, runEnd, edgeBehind, innerSpace}
 use Rattle.json_text.specs.Text.{textFrom, textAt, ruleBroken, none, wrongHere, firstWrong, closesAt, wrongFrom, wrongAt, textRead}
 use Rattle.json_text.specs.declared.TextType.{TextType}
 use Rattle.json_text.specs.declared.Wrong.{Wrong}
 use Rattle.json_text.specs.declared.TextRead.{TextRead}
-use Rattle.json_text.proofs.Spaces.{graphic-right}
+use Rattle.json_text.proofs.Spaces.{graphic-right, space-right}
 
 -- ---- the first of several wrong characters
 module _ (w v : Wrong) where
@@ -186,6 +186,33 @@ module _ (ty : TextType) (s : List ℕ) (at : ℕ) (w : Wrong) where
 
   pub along-end : (i j : ℕ) (edge : Bool) → Left ty s at w i edge → j ≡ runEnd s i → Left ty s at w j (edgeBehind edge i j)
   along-end i j edge left is = along-run i j edge left (run-of s i j is)
+
+-- ---- a space behind such a run, which the closing quote does not follow
+module _ (s : List ℕ) (i j : ℕ) where
+  pub record Inner : Type 0 where
+    pub run : ltb i j ≡ true
+    pub space : byteAt s j ≡ 32
+    pub goes-on : closesAt s (j + 1) ≡ false
+
+  pub inner-of : {t : Bool} → t ≡ innerSpace s i j → t ≡ true → Inner
+  unfolding innerSpace closesAt
+  inner-of is told =
+      let all : innerSpace s i j ≡ true = sym is ∙ told in
+      let others = both-right (ltb i j) _ all in
+      record {
+        run = both-left (ltb i j) _ all;
+        space = eqb-true (byteAt s j) 32 (both-left (eqb (byteAt s j) 32) _ others);
+        goes-on = not-true _ (both-right (eqb (byteAt s j) 32) _ others);
+      }
+
+module _ (ty : TextType) (s : List ℕ) (at : ℕ) (w : Wrong) where
+  pub along-space : (i j : ℕ) (edge : Bool) → Left ty s at w i edge → j ≡ runEnd s i → Inner s i j → Left ty s at w (j + 1) true
+  unfolding edgeBehind
+  along-space i j edge left is inner =
+      let none : edgeBehind edge i j ≡ false = rw (inner .run) in
+      let behind : Left ty s at w j false = rw none at (along-end ty s at w i j edge left is) in
+      let step : stepAt s j ≡ Char 32 (j + 1) = rw (inner .space) at (own-step s j (omega (arith, inner .space)) (omega (arith, inner .space)) (ne-eqb (byteAt s j) 34 (λ e. omega (arith, inner .space, e))) (ne-eqb (byteAt s j) 92 (λ e. omega (arith, inner .space, e)))) in
+      take-char ty s at w j false behind 32 (j + 1) 0 false w step (sym (inner .goes-on)) (sym (space-right ty)) (sym (right-here w j (behind .tidy)))
 
 module _ (ty : TextType) (s : List ℕ) (at : ℕ) where
   pub opened : at < length s → byteAt s at ≡ 34 → Left ty s at (record { rule = 0; place = 0 }) (at + 1) true

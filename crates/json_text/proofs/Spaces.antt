@@ -187,3 +187,10 @@ module _ (c : ℕ) (t : Bool) (told : t ≡ within 0x21 0x7E c) (yes : t ≡ tru
   pub graphic-right : (ty : TextType) (edge : Bool) → ruleBroken ty c edge ≡ 0
   unfolding ruleBroken wrongSpace
   graphic-right ty edge = rw (not-barred, not-white ty, not-outside ty, before 0xD800 0xDFFF c (omega (arith, to)))
+
+-- nor does a space that stands at no edge
+pub space-right : (ty : TextType) → ruleBroken ty 32 false ≡ 0
+unfolding barred whiteSpace blanks spacesOf inRuns isWhite wrongSpace outsideID ruleBroken within
+space-right Text = refl
+space-right String = refl
+space-right StringID = refl

@@ -1,7 +1,7 @@
 -- For the code's sake alone: a run of bytes that are characters by themselves and break no rule of any type.
 use Prim.Native.Nat.{ℕ, _+_, _≤_, _<_}
 use mathlib.Core.Path.{_≡_}
-use mathlib.Core.Bool.{Bool, true, false, cond}
+use mathlib.Core.Bool.{Bool, true, false, cond, not, _&&_}
 use mathlib.Core.List.{List}
 use lib.ListN.{drop}
 use lib.Dec.{ltb, eqb}
@@ -30,3 +30,7 @@ plainEnd s at =
 -- behind one of them there is no edge
 unfoldable pub edgeBehind : Bool → ℕ → ℕ → Bool
 edgeBehind edge i j = cond (ltb i j) false edge
+
+-- behind one of them a space that the closing quote does not follow breaks no rule either
+unfoldable pub innerSpace : List ℕ → ℕ → ℕ → Bool
+innerSpace s i j = ltb i j && (eqb (byteAt s j) 32 && not (eqb (byteAt s (j + 1)) 34))

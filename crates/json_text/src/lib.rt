@@ -1,7 +1,7 @@
 // A string read whole, with the first character that breaks a rule of its type, in one pass.
 ghost use mathlib.Core.Path.{_≡_};
 ghost use mathlib.Core.Bool.{_||_};
-ghost use Rattle.json_text.specs.Run.{isGraphic, runEnd, plainEnd, edgeBehind};
+ghost use Rattle.json_text.specs.Run.{isGraphic, runEnd, plainEnd, edgeBehind, innerSpace};
 ghost use Rattle.json_text.specs.Text.{barred, whiteSpace, blanks, inRuns, isWhite, wrongSpace, outsideID, ruleBroken, wrongHere, firstWrong, closesAt, textRead};
 use json_bytes::Reading;
 use json_bytes::byte_at;
@@ -228,8 +228,23 @@ fn is_edge_behind(edge: bool, i: usize, j: usize) -> bool
     edge
 }
 
+// Whether a space stands at j, behind a run of such bytes from i on, that breaks no rule of any type: the
+// closing quote does not follow it.
+fn is_inner_space(s: &[u8], i: usize, j: usize) -> bool
+    ensures { λ r. ⌜ r ≡ innerSpace (now (s .entry)) i j ⌝ }
+{
+    if j <= i {
+        return false;
+    }
+    if byte_at(s, j) == 32 {
+        return byte_at(s, j + 1) != 34;
+    }
+    false
+}
+
 // The string whose opening quote stands at `at`: the place behind its closing quote or its fault,
-// and its first character that breaks a rule of the type.
+// and its first character that breaks a rule of the type. Most bytes are in runs, and most others are the space
+// between two words: neither needs a step.
 pub fn read_text(s: &[u8], at: usize, ty: TextType) -> TextRead
     ensures { λ r. ⌜ r ≡ textRead ty (now (s .entry)) at ⌝ }
 {
@@ -254,24 +269,29 @@ pub fn read_text(s: &[u8], at: usize, ty: TextType) -> TextRead
                 wrong,
             };
         }
-        match step_at(s, j) {
-            Step::Char { code, next } => {
-                let near = is_edge(is_edge_behind(edge, i, j), s, next);
-                wrong = first_of(wrong, rule_of(ty, code, near), j);
-                edge = code == 32;
-                i = next;
-            }
-            Step::Close => {
-                return TextRead {
-                    reading: Reading::Whole { end: j + 1 },
-                    wrong,
-                };
-            }
-            Step::Bad { kind, place } => {
-                return TextRead {
-                    reading: Reading::Fault { kind, place },
-                    wrong,
-                };
+        if is_inner_space(s, i, j) {
+            edge = true;
+            i = j + 1;
+        } else {
+            match step_at(s, j) {
+                Step::Char { code, next } => {
+                    let near = is_edge(is_edge_behind(edge, i, j), s, next);
+                    wrong = first_of(wrong, rule_of(ty, code, near), j);
+                    edge = code == 32;
+                    i = next;
+                }
+                Step::Close => {
+                    return TextRead {
+                        reading: Reading::Whole { end: j + 1 },
+                        wrong,
+                    };
+                }
+                Step::Bad { kind, place } => {
+                    return TextRead {
+                        reading: Reading::Fault { kind, place },
+                        wrong,
+                    };
+                }
             }
         }
     }

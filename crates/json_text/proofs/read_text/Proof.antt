@@ -10,7 +10,7 @@ use denote.Ref.{now}
 use Rattle.json_bytes.specs.Reads.{byteAt}
 use Rattle.json_bytes.proofs.Laws.{inside}
 use Rattle.json_chars.proofs.Plain.{closing-step}
-use Rattle.json_text.proofs.Laws.{Left, opened, unopened, take-char, take-close, take-bad, char-after, close-inside, run-of, along-end}
+use Rattle.json_text.proofs.Laws.{Left, opened, unopened, take-char, take-close, take-bad, char-after, close-inside, run-of, along-end, Inner, inner-of, along-space}
 use Rattle.json_text.proofs.read_text.Statement.{statement}
 use Rattle.json_text.proofs.read_text.Tie as tie
 
@@ -47,6 +47,21 @@ add-end c = omega (arith, inside (now (c .before .before .before .before .before
 returns-2 : tie.Need-returns-2 Inv-loop μ-loop
 returns-2 c = sym (take-close _ _ _ _ _ _ (along-end _ _ _ _ _ _ _ (c .before .before .before .loop .inv) (c .before .before .run-end .ensures)) (closing-step _ _ (closed c)))
 
+is-inner-space-requires : tie.Need-is-inner-space-requires Inv-loop μ-loop
+is-inner-space-requires c κs = search needs
+
+inner : (c : tie.Then3 Inv-loop μ-loop) → Inner (now (c .before .before .before .before .before .before .before .before .before .args .s)) (c .before .before .before .before .before .loop .i) (c .before .before .before .before .run-end .result)
+inner c = inner-of _ _ _ (c .before .is-inner-space .ensures) (c .if3 .taken)
+
+add-i-2 : tie.Need-add-i-2 Inv-loop μ-loop
+add-i-2 c = omega (arith, inside (now (c .before .before .before .before .before .before .before .before .before .args .s)) _ 32 (inner c .space) (lit< tt))
+
+loop-less : tie.Need-loop-less Inv-loop μ-loop
+loop-less c = omega (arith, run-of _ _ _ (c .before .before .before .before .run-end .ensures) .onwards, inside (now (c .before .before .before .before .before .before .before .before .before .args .s)) _ 32 (inner c .space) (lit< tt))
+
+loop-again : tie.Need-loop-again Inv-loop μ-loop
+loop-again c = along-space _ _ _ _ _ _ _ (c .before .before .before .before .before .loop .inv) (c .before .before .before .before .run-end .ensures) (inner c)
+
 step-at-requires : tie.Need-step-at-requires Inv-loop μ-loop
 step-at-requires c κs = search needs
 
@@ -65,26 +80,26 @@ rule-of-requires c κs = search needs
 first-of-requires : tie.Need-first-of-requires Inv-loop μ-loop
 first-of-requires c κs = search needs
 
-loop-less : tie.Need-loop-less Inv-loop μ-loop
-loop-less c = omega (arith, run-of _ _ _ (c .before .before .before .before .before .before .before .before .before .before .run-end .ensures) .onwards, char-after _ _ _ _ _ _ (along-end _ _ _ _ _ _ _ (c .before .before .before .before .before .before .before .before .before .before .before .loop .inv) (c .before .before .before .before .before .before .before .before .before .before .run-end .ensures)) _ _ (sym (c .before .before .before .before .before .before .before .step-at .ensures) ∙ c .before .before .before .before .before .code .given .1))
+loop-less-2 : tie.Need-loop-less-2 Inv-loop μ-loop
+loop-less-2 c = omega (arith, run-of _ _ _ (c .before .before .before .before .before .before .before .before .before .before .before .before .run-end .ensures) .onwards, char-after _ _ _ _ _ _ (along-end _ _ _ _ _ _ _ (c .before .before .before .before .before .before .before .before .before .before .before .before .before .loop .inv) (c .before .before .before .before .before .before .before .before .before .before .before .before .run-end .ensures)) _ _ (sym (c .before .before .before .before .before .before .before .step-at .ensures) ∙ c .before .before .before .before .before .code .given .1))
 
-loop-again : tie.Need-loop-again Inv-loop μ-loop
-loop-again c = take-char _ _ _ _ _ _ (along-end _ _ _ _ _ _ _ (c .before .before .before .before .before .before .before .before .before .before .before .loop .inv) (c .before .before .before .before .before .before .before .before .before .before .run-end .ensures)) _ _ _ _ _ (sym (c .before .before .before .before .before .before .before .step-at .ensures) ∙ c .before .before .before .before .before .code .given .1) (rw (c .before .before .before .is-edge-behind .ensures) at (c .before .before .is-edge .ensures)) (c .before .rule-of .ensures) (c .first-of .ensures)
+loop-again-2 : tie.Need-loop-again-2 Inv-loop μ-loop
+loop-again-2 c = take-char _ _ _ _ _ _ (along-end _ _ _ _ _ _ _ (c .before .before .before .before .before .before .before .before .before .before .before .before .before .loop .inv) (c .before .before .before .before .before .before .before .before .before .before .before .before .run-end .ensures)) _ _ _ _ _ (sym (c .before .before .before .before .before .before .before .step-at .ensures) ∙ c .before .before .before .before .before .code .given .1) (rw (c .before .before .before .is-edge-behind .ensures) at (c .before .before .is-edge .ensures)) (c .before .rule-of .ensures) (c .first-of .ensures)
 
 enum-told : tie.Need-enum-told Inv-loop μ-loop
 enum-told c = search needs
 
-add-t23 : tie.Need-add-t23 Inv-loop μ-loop
-add-t23 c = omega (arith, close-inside _ _ _ _ _ _ (along-end _ _ _ _ _ _ _ (c .before .before .before .before .before .before .loop .inv) (c .before .before .before .before .before .run-end .ensures)) (sym (c .before .before .step-at .ensures) ∙ c .enum-told .given .1))
+add-t24 : tie.Need-add-t24 Inv-loop μ-loop
+add-t24 c = omega (arith, close-inside _ _ _ _ _ _ (along-end _ _ _ _ _ _ _ (c .before .before .before .before .before .before .before .before .loop .inv) (c .before .before .before .before .before .before .before .run-end .ensures)) (sym (c .before .before .step-at .ensures) ∙ c .enum-told .given .1))
 
 returns-3 : tie.Need-returns-3 Inv-loop μ-loop
-returns-3 c = sym (take-close _ _ _ _ _ _ (along-end _ _ _ _ _ _ _ (c .before .before .before .before .before .before .loop .inv) (c .before .before .before .before .before .run-end .ensures)) (sym (c .before .before .step-at .ensures) ∙ c .enum-told .given .1))
+returns-3 c = sym (take-close _ _ _ _ _ _ (along-end _ _ _ _ _ _ _ (c .before .before .before .before .before .before .before .before .loop .inv) (c .before .before .before .before .before .before .before .run-end .ensures)) (sym (c .before .before .step-at .ensures) ∙ c .enum-told .given .1))
 
 enum-known-kind : tie.Need-enum-known-kind Inv-loop μ-loop
 enum-known-kind c = search needs
 
 returns-4 : tie.Need-returns-4 Inv-loop μ-loop
-returns-4 c = sym (take-bad _ _ _ _ _ _ (along-end _ _ _ _ _ _ _ (c .before .before .before .before .before .before .before .loop .inv) (c .before .before .before .before .before .before .run-end .ensures)) _ _ (sym (c .before .before .before .step-at .ensures) ∙ c .before .kind .given .1))
+returns-4 c = sym (take-bad _ _ _ _ _ _ (along-end _ _ _ _ _ _ _ (c .before .before .before .before .before .before .before .before .before .loop .inv) (c .before .before .before .before .before .before .before .before .run-end .ensures)) _ _ (sym (c .before .before .before .step-at .ensures) ∙ c .before .kind .given .1))
 
 pub read-text-spec : {M : Type 1} → statement M
 read-text-spec =
@@ -100,16 +115,20 @@ read-text-spec =
     byte-at-requires-2
     add-end
     returns-2
+    is-inner-space-requires
+    add-i-2
+    loop-less
+    loop-again
     step-at-requires
     enum-known-code
     is-edge-behind-requires
     is-edge-requires
     rule-of-requires
     first-of-requires
-    loop-less
-    loop-again
+    loop-less-2
+    loop-again-2
     enum-told
-    add-t23
+    add-t24
     returns-3
     enum-known-kind
     returns-4)
