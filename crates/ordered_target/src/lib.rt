@@ -1,17 +1,21 @@
 // A value that some record of another table must have too. Tables mostly name their targets one after the
 // other, so the record behind the target found last is tried first, then that one again, and then those
-// around it. Only where none of them is it, the target records are put in order, and the value is looked up.
-// From there on a lookup is cheap, and those around are tried no more: where targets come in no order, these
-// tries would be in vain for each record.
+// around it. Only where none of them is it, each target record is put into a list of slots, near a place that its
+// text tells, and from there on a value is looked for in the slots near its own place. Those around are tried no
+// more: where targets come in no order, these tries would be in vain for each record.
+// Slots only guess: a record that stands there is compared, and one that does not may still be a target, as where
+// too many have one place. So what they don't answer, which mostly is a value that no target record has, takes the
+// dearest way: the target records are put in order, and the value is looked up there, as are all behind it.
 ghost use mathlib.Core.Path.{_≡_};
 ghost use mathlib.Core.Bool.{true, false, not, cond, _&&_};
-ghost use Prim.Native.Nat.{_+_, _-_, _*_, _≤_, _<_};
+ghost use Prim.Native.Nat.{_+_, _-_, _*_, _%_, _≤_, _<_};
 ghost use lib.ListN.{length, drop};
 ghost use lib.Dec.{ltb, eqb};
 ghost use Rattle.json_bytes.specs.Reads.{byteAt};
 ghost use Rattle.json_chars.specs.Chars.{charsAt};
 ghost use Rattle.json_same.specs.Same.{sameAs};
 ghost use Rattle.json_same.specs.declared.Case.the-variants.{Folded};
+ghost use Rattle.key_sum.specs.Sum.{keySum};
 ghost use Rattle.rule_cells.specs.Cells.{table, startOf, textOf, isGiven, firstFrom};
 ghost use Rattle.rule_when.specs.When.{holdsWhen};
 ghost use Rattle.rule_target.specs.Target.{targetOf, breaksTarget, targetRule};
@@ -21,16 +25,19 @@ ghost use Rattle.ordered_target.specs.Found.{oneText};
 use json_bytes::byte_at;
 use json_same::Case;
 use json_same::same_text;
+use json_text::plain_end;
 use key_lookup::Lookup;
 use key_lookup::key_of;
 use key_lookup::place_of;
 use key_order::key_order;
 use key_sum::key_sum;
+use parts::part;
 use rule_cells::is_given;
 use rule_cells::start_of;
 use rule_target::Target;
 use rule_target::target_rule;
 use rule_when::holds_when;
+use table_name::same_bytes;
 
 // Whether a target was found, and near which record the next one is tried: the one that was found last.
 struct Near {
@@ -49,6 +56,62 @@ fn end_of(cells: &[u32], width: usize, r: usize, k: usize) -> usize
     0
 }
 
+// Whether record q of the target table is seen, by its bytes alone, to have the text from `at` up to `end`: the
+// same bytes stand for its value, and they begin with a string in which each byte is a character by itself. So no
+// character is decoded or folded. Of bytes that are no whole string the same ones would tell nothing: the text would
+// go on behind them.
+fn is_copy(
+    s: &[u8],
+    at: usize,
+    end: usize,
+    u: &[u8],
+    u_cells: &[u32],
+    u_width: usize,
+    u_records: usize,
+    m: usize,
+    q: usize,
+) -> bool
+    ensures { λ x. ⌜ (x ≡ true → eqb (targetOf (charsAt (now (s .entry)) at) (table (now (u .entry)) (now («u_cells» .entry)) «u_width» «u_records») m) 0 ≡ false) ⌝ }
+{
+    if q < u_records {
+        let text = part(s, at, end);
+        let start = start_of(u_cells, u_width, q, m);
+        let target = part(u, start, end_of(u_cells, u_width, q, m));
+        if same_bytes(text, target) {
+            return 0 < plain_end(text, 0);
+        }
+    }
+    false
+}
+
+// Tries whether the record behind the one that was found last has the same bytes. Most do where targets are named
+// one after the other.
+fn guess_copy(
+    s: &[u8],
+    at: usize,
+    end: usize,
+    u: &[u8],
+    u_cells: &[u32],
+    u_width: usize,
+    u_records: usize,
+    m: usize,
+    near: usize,
+) -> Near
+    ensures { λ x. ⌜ (x .found ≡ true → eqb (targetOf (charsAt (now (s .entry)) at) (table (now (u .entry)) (now («u_cells» .entry)) «u_width» «u_records») m) 0 ≡ false) ⌝ }
+{
+    if near < u_records {
+        let next = near + 1;
+        return Near {
+            found: is_copy(s, at, end, u, u_cells, u_width, u_records, m, next),
+            record: next,
+        };
+    }
+    Near {
+        found: false,
+        record: near,
+    }
+}
+
 // The last two bytes of a text whose closing quote stands before `end`, as one number; 0 where there are none.
 fn tail_before(s: &[u8], end: usize) -> u32
     ensures { λ x. ⌜ x ≡ cond (ltb end 3) 0 (byteAt (now (s .entry)) (end - 3) * 256 + byteAt (now (s .entry)) (end - 2)) ⌝ }
@@ -57,6 +120,26 @@ fn tail_before(s: &[u8], end: usize) -> u32
         return 0;
     }
     (byte_at(s, end - 3) as u32) * 256 + (byte_at(s, end - 2) as u32)
+}
+
+// Whether record q of the target table is seen to have the text at `at`.
+fn has_text(
+    s: &[u8],
+    at: usize,
+    u: &[u8],
+    u_cells: &[u32],
+    u_width: usize,
+    u_records: usize,
+    m: usize,
+    q: usize,
+) -> bool
+    ensures { λ x. ⌜ (x ≡ true → eqb (targetOf (charsAt (now (s .entry)) at) (table (now (u .entry)) (now («u_cells» .entry)) «u_width» «u_records») m) 0 ≡ false) ⌝ }
+{
+    if q < u_records {
+        let start = start_of(u_cells, u_width, q, m);
+        return same_text(s, at, u, start, Case::Folded);
+    }
+    false
 }
 
 // Whether record q of the target table is seen to have the text at `at`, whose last two bytes are `tail`. IDs
@@ -75,13 +158,10 @@ fn is_target(
 ) -> bool
     ensures { λ x. ⌜ (x ≡ true → eqb (targetOf (charsAt (now (s .entry)) at) (table (now (u .entry)) (now («u_cells» .entry)) «u_width» «u_records») m) 0 ≡ false) ⌝ }
 {
-    if q < u_records {
-        if tail != tail_before(u, end_of(u_cells, u_width, q, m)) {
-            return false;
-        }
-        return same_text(s, at, u, start_of(u_cells, u_width, q, m), Case::Folded);
+    if tail != tail_before(u, end_of(u_cells, u_width, q, m)) {
+        return false;
     }
-    false
+    has_text(s, at, u, u_cells, u_width, u_records, m, q)
 }
 
 // Tries the record behind the one that was found last, and then that one.
@@ -232,9 +312,104 @@ fn look_up(
     }
 }
 
-// Whether record r is seen to hold: its target is not asked for, or it is guessed. Where the lists have the order
-// of the target records, as `ordered` says, it is looked up and not tried around, and a record that is not seen to
-// hold breaks the rule.
+// The first of the 32 slots in which the text at `at` may stand. It is one of 8,192, twice as many as a table has
+// records, and a list of slots has 32 more, for those that begin at the last.
+fn home_of(s: &[u8], at: usize) -> usize
+    ensures { λ x. ⌜ x ≡ keySum (now (s .entry)) at % 8192 ⌝ }
+{
+    (key_sum(s, at) % 8192) as usize
+}
+
+// Puts a number into the first of 32 slots that is free. Where none is, it is left out, and the slots don't find its
+// record. With fewer of them that happens in a table that is nearly full, which then is put in order all the same.
+fn put_slot(slots: &mut [u16], home: usize, x: u16)
+    requires { ⌜ home < 8192 ⌝ }
+    ensures { λ _. ⌜ length (now (slots .exit)) ≡ length (now (slots .entry)) ⌝ }
+{
+    let end = home + 32;
+    let mut i = home;
+    while i < end {
+        if slots.len() <= i {
+            return;
+        }
+        if slots[i] == 0 {
+            slots[i] = x;
+            return;
+        }
+        i += 1;
+    }
+}
+
+// Puts each target record into a slot of its text, counted from 1: a slot that is 0 is free.
+fn fill_slots(
+    u: &[u8],
+    u_cells: &[u32],
+    u_width: usize,
+    u_records: usize,
+    m: usize,
+    slots: &mut [u16],
+)
+    requires { ⌜ «u_records» ≤ 4096 ⌝ }
+    ensures { λ _. ⌜ length (now (slots .exit)) ≡ length (now (slots .entry)) ⌝ }
+{
+    let mut q = 0;
+    while q < u_records {
+        let home = home_of(u, start_of(u_cells, u_width, q, m));
+        q += 1;
+        put_slot(slots, home, q as u16);
+    }
+}
+
+fn wide(x: u16) -> usize
+    ensures { λ r. ⌜ r ≡ x ⌝ }
+{
+    x as usize
+}
+
+// Tries the records that stand in the slots of a text, up to the first slot that is free.
+fn guess_slot(
+    s: &[u8],
+    at: usize,
+    u: &[u8],
+    u_cells: &[u32],
+    u_width: usize,
+    u_records: usize,
+    m: usize,
+    slots: &[u16],
+) -> Near
+    ensures { λ x. ⌜ (x .found ≡ true → eqb (targetOf (charsAt (now (s .entry)) at) (table (now (u .entry)) (now («u_cells» .entry)) «u_width» «u_records») m) 0 ≡ false) ⌝ }
+{
+    let none = Near {
+        found: false,
+        record: 0,
+    };
+    let home = home_of(s, at);
+    let end = home + 32;
+    let mut i = home;
+    while i < end {
+        if slots.len() <= i {
+            return none;
+        }
+        let x = wide(slots[i]);
+        if x == 0 {
+            return none;
+        }
+        let q = x - 1;
+        if has_text(s, at, u, u_cells, u_width, u_records, m, q) {
+            return Near {
+                found: true,
+                record: q,
+            };
+        }
+        i += 1;
+    }
+    none
+}
+
+// Whether record r is seen to hold: its target is not asked for, or it is guessed. One that is copied is the
+// cheapest to see and holds whether or not it is asked for, so it is tried before that is. Where there are slots, it
+// is looked for in them and not tried around. Where the lists have the order of the target records, as `ordered`
+// says, it is looked up there, and a record that is not seen to hold breaks the rule.
 fn find_record(
     s: &[u8],
     cells: &[u32],
@@ -249,6 +424,7 @@ fn find_record(
     texts: &[u8],
     sums: &[u32],
     order: &[u32],
+    slots: &[u16],
     near: usize,
     ordered: bool,
 ) -> Near
@@ -256,15 +432,23 @@ fn find_record(
     ensures { λ x. ⌜ (x .found ≡ true → breaksTarget (table (now (s .entry)) (now (cells .entry)) width 0) (t .k) (t .when) (table (now (u .entry)) (now («u_cells» .entry)) «u_width» «u_records») (t .m) (now (places .entry)) (now (texts .entry)) r ≡ false) ⌝ }
     ensures { λ x. ⌜ (x .found ≡ false → ordered ≡ true → breaksTarget (table (now (s .entry)) (now (cells .entry)) width 0) (t .k) (t .when) (table (now (u .entry)) (now («u_cells» .entry)) «u_width» «u_records») (t .m) (now (places .entry)) (now (texts .entry)) r ≡ true) ⌝ }
 {
+    let at = start_of(cells, width, r, t.k);
+    let end = end_of(cells, width, r, t.k);
+    let copy = guess_copy(s, at, end, u, u_cells, u_width, u_records, t.m, near);
+    if copy.found {
+        return copy;
+    }
     if is_asked(s, cells, width, r, t, places, texts) {
-        let at = start_of(cells, width, r, t.k);
-        let tail = tail_before(s, end_of(cells, width, r, t.k));
+        let tail = tail_before(s, end);
         let tried = guess_next(s, at, tail, u, u_cells, u_width, u_records, t.m, near);
         if tried.found {
             return tried;
         }
         if ordered {
             return look_up(s, at, u, u_cells, u_width, t.m, sums, order);
+        }
+        if 0 < slots.len() {
+            return guess_slot(s, at, u, u_cells, u_width, u_records, t.m, slots);
         }
         return guess_around(s, at, tail, u, u_cells, u_width, u_records, t.m, near);
     }
@@ -289,6 +473,7 @@ fn first_unfound(
     texts: &[u8],
     sums: &[u32],
     order: &[u32],
+    slots: &[u16],
     from: usize,
     ordered: bool,
 ) -> usize
@@ -313,6 +498,7 @@ fn first_unfound(
             texts,
             sums,
             order,
+            slots,
             near,
             ordered,
         );
@@ -356,6 +542,7 @@ fn unfound_in_order(
         order,
         scratch,
     );
+    let free = [0u16; 0];
     let r = first_unfound(
         s,
         cells,
@@ -370,6 +557,7 @@ fn unfound_in_order(
         texts,
         sums,
         order,
+        &free,
         from,
         true,
     );
@@ -419,6 +607,85 @@ fn unfound_from(
     )
 }
 
+// Walks on from a record to the first one whose target the slots don't find: none before it breaks the rule. The
+// target records are put into the lent slots, which are free.
+fn unslotted_in(
+    s: &[u8],
+    cells: &[u32],
+    width: usize,
+    records: usize,
+    t: Target,
+    u: &[u8],
+    u_cells: &[u32],
+    u_width: usize,
+    u_records: usize,
+    places: &[u32],
+    texts: &[u8],
+    slots: &mut [u16],
+    from: usize,
+) -> usize
+    requires { ⌜ «u_records» ≤ 4096 ⌝ }
+    ensures { λ x. ⌜ firstFrom (breaksTarget (table (now (s .entry)) (now (cells .entry)) width 0) (t .k) (t .when) (table (now (u .entry)) (now («u_cells» .entry)) «u_width» «u_records») (t .m) (now (places .entry)) (now (texts .entry))) (records - from) from ≡ firstFrom (breaksTarget (table (now (s .entry)) (now (cells .entry)) width 0) (t .k) (t .when) (table (now (u .entry)) (now («u_cells» .entry)) «u_width» «u_records») (t .m) (now (places .entry)) (now (texts .entry))) (records - x) x ⌝ }
+{
+    fill_slots(u, u_cells, u_width, u_records, t.m, slots);
+    let none = [0u32; 0];
+    first_unfound(
+        s,
+        cells,
+        width,
+        records,
+        t,
+        u,
+        u_cells,
+        u_width,
+        u_records,
+        places,
+        texts,
+        &none,
+        &none,
+        slots,
+        from,
+        false,
+    )
+}
+
+// The same in slots of its own. They are of two bytes, so that they fit on the stack where one of the lists of an
+// order stands later.
+fn unslotted_from(
+    s: &[u8],
+    cells: &[u32],
+    width: usize,
+    records: usize,
+    t: Target,
+    u: &[u8],
+    u_cells: &[u32],
+    u_width: usize,
+    u_records: usize,
+    places: &[u32],
+    texts: &[u8],
+    from: usize,
+) -> usize
+    requires { ⌜ «u_records» ≤ 4096 ⌝ }
+    ensures { λ x. ⌜ firstFrom (breaksTarget (table (now (s .entry)) (now (cells .entry)) width 0) (t .k) (t .when) (table (now (u .entry)) (now («u_cells» .entry)) «u_width» «u_records») (t .m) (now (places .entry)) (now (texts .entry))) (records - from) from ≡ firstFrom (breaksTarget (table (now (s .entry)) (now (cells .entry)) width 0) (t .k) (t .when) (table (now (u .entry)) (now («u_cells» .entry)) «u_width» «u_records») (t .m) (now (places .entry)) (now (texts .entry))) (records - x) x ⌝ }
+{
+    let mut slots = [0u16; 8224];
+    unslotted_in(
+        s,
+        cells,
+        width,
+        records,
+        t,
+        u,
+        u_cells,
+        u_width,
+        u_records,
+        places,
+        texts,
+        &mut slots,
+        from,
+    )
+}
+
 // The first record whose value no target record has, counted from 1; 0 where there is none. Of more target
 // records than a table has, each value is searched among all of them.
 pub fn target_rule_by_order(
@@ -452,6 +719,7 @@ pub fn target_rule_by_order(
         );
     }
     let none = [0u32; 0];
+    let free = [0u16; 0];
     let from = first_unfound(
         s,
         cells,
@@ -466,11 +734,12 @@ pub fn target_rule_by_order(
         texts,
         &none,
         &none,
+        &free,
         0,
         false,
     );
     if from < records {
-        return unfound_from(
+        let then = unslotted_from(
             s,
             cells,
             width,
@@ -484,6 +753,22 @@ pub fn target_rule_by_order(
             texts,
             from,
         );
+        if then < records {
+            return unfound_from(
+                s,
+                cells,
+                width,
+                records,
+                t,
+                u,
+                u_cells,
+                u_width,
+                u_records,
+                places,
+                texts,
+                then,
+            );
+        }
     }
     0
 }

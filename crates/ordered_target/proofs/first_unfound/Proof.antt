@@ -12,11 +12,11 @@ use Rattle.ordered_target.proofs.first_unfound.Statement.{statement}
 use Rattle.ordered_target.proofs.first_unfound.Tie as tie
 
 abbrev Inv-loop : tie.InvT-loop
-Inv-loop s cells width records t u u-cells u-width u-records places texts sums order from ordered r₀ near₀ r near =
+Inv-loop s cells width records t u u-cells u-width u-records places texts sums order slots from ordered r₀ near₀ r near =
     firstFrom (breaksTarget (table s cells width 0) (t .k) (t .when) (table u u-cells u-width u-records) (t .m) places texts) (records - from) from ≡ firstFrom (breaksTarget (table s cells width 0) (t .k) (t .when) (table u u-cells u-width u-records) (t .m) places texts) (records - r) r
 
 abbrev μ-loop : tie.MeasureT-loop
-μ-loop s cells width records t u u-cells u-width u-records places texts sums order from ordered r₀ near₀ r near = records - r
+μ-loop s cells width records t u u-cells u-width u-records places texts sums order slots from ordered r₀ near₀ r near = records - r
 
 loop-holds : tie.Need-loop-holds Inv-loop μ-loop
 loop-holds c = refl

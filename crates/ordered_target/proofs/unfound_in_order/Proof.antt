@@ -16,12 +16,15 @@ key-of-requires c κs = search needs
 key-order-requires : tie.Need-key-order-requires
 key-order-requires c κs = search needs
 
+slice-aggregate-first-unfound : tie.Need-slice-aggregate-first-unfound
+slice-aggregate-first-unfound c = search needs
+
 first-unfound-requires : tie.Need-first-unfound-requires
 first-unfound-requires c κs = λ e.
-    filled _ _ _ _ _ _ _ _ _ _ (c .before .before .before .before .before .before .before .before .before .before .before .before .before .one-text .ensures) (c .before .before .before .before .before .before .before .before .before .before .before .before .key-of .ensures) (c .before .before .before .before .before .before .before .before .before .before .before .before .before .before .before .before .before .before .before .before .before .before .before .pre .1) (c .before .before .before .before .before .before .before .before .before .before .before .before .before .before .before .before .before .before .before .before .before .before .before .pre .0) (c .before .before .before .before .before .before .before .before .key-order .ensures .1) (c .before .before .before .before .before .before .before .before .key-order .ensures .2)
+    filled _ _ _ _ _ _ _ _ _ _ (c .before .before .before .before .before .before .before .before .before .before .before .before .before .before .one-text .ensures) (c .before .before .before .before .before .before .before .before .before .before .before .before .before .key-of .ensures) (c .before .before .before .before .before .before .before .before .before .before .before .before .before .before .before .before .before .before .before .before .before .before .before .before .pre .1) (c .before .before .before .before .before .before .before .before .before .before .before .before .before .before .before .before .before .before .before .before .before .before .before .before .pre .0) (c .before .before .before .before .before .before .before .before .before .key-order .ensures .1) (c .before .before .before .before .before .before .before .before .before .key-order .ensures .2)
 
 add-result : tie.Need-add-result
-add-result c = omega (arith, c .if1 .taken, c .before .before .before .before .before .before .before .before .before .before .before .before .before .before .before .before .before .before .before .before .before .before .before .before .before .fits .records)
+add-result c = omega (arith, c .if1 .taken, c .before .before .before .before .before .before .before .before .before .before .before .before .before .before .before .before .before .before .before .before .before .before .before .before .before .before .fits .records)
 
 same-length : tie.Need-same-length
 same-length c = search needs
@@ -55,6 +58,7 @@ unfound-in-order-spec =
     one-text-requires
     key-of-requires
     key-order-requires
+    slice-aggregate-first-unfound
     first-unfound-requires
     add-result
     same-length
