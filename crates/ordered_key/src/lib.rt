@@ -1,7 +1,7 @@
 // The rule "primary key" judged through an order of the records: equal keys stand beside each other in
 // it, so that each record is compared with one other. It is an order by sums first, made of each ID that
-// a key starts with: keys of different sums are not compared. Records whose keys ascend are in order
-// already.
+// a key starts with: keys of different sums are not compared. Records whose keys ascend need none of
+// this: that is asked by itself, so that who asks it first makes no lists for them.
 ghost use mathlib.Core.Path.{_≡_};
 ghost use Prim.Native.Nat.{_+_, _<_};
 ghost use lib.ListN.{length};
@@ -12,6 +12,7 @@ ghost use Rattle.ordered_key.specs.Sums.{keySumOf, keySums};
 ghost use Rattle.ordered_key.specs.Repeat.{sameSumAndKey, lesser, repeatOf, leastRepeat, breakAt};
 ghost use Rattle.ordered_key.specs.Ascending.{ascending};
 use key_order::compare_keys;
+use key_order::compare_others;
 use key_order::order_by_sums;
 use key_order::sum_at;
 use key_sum::key_sum;
@@ -23,6 +24,7 @@ use rule_key::earliest_same;
 use rule_key::key_rule;
 use rule_key::same_key;
 use text_order::Compared;
+use text_order::text_order;
 
 // The lesser of two records, both counted from 1; 0 stands for none.
 fn lesser(a: usize, b: usize) -> usize
@@ -99,13 +101,47 @@ fn order_break(
     }
 }
 
-// Whether each record's key is less than the next one's.
-fn is_ascending(s: &[u8], cells: &[u32], width: usize, records: usize, key: Key) -> bool
+// The key of record i beside that of record j. Most keys start with an ID: the two texts are then compared
+// at once, with no way through the kinds that a field can be of.
+fn compare_ids_first(
+    s: &[u8],
+    cells: &[u32],
+    width: usize,
+    key: Key,
+    i: usize,
+    j: usize,
+) -> Compared
+    ensures { λ r. ⌜ r ≡ keyOrder (table (now (s .entry)) (now (cells .entry)) width 0) key i j ⌝ }
+{
+    if key.a_kind == 1 {
+        match text_order(
+            s,
+            start_of(cells, width, i, key.a),
+            s,
+            start_of(cells, width, j, key.a),
+        ) {
+            Compared::Less => {
+                return Compared::Less;
+            }
+            Compared::Same => {
+                return compare_others(s, cells, width, key, i, j);
+            }
+            Compared::More => {
+                return Compared::More;
+            }
+        }
+    }
+    compare_keys(s, cells, width, key, i, j)
+}
+
+// Whether each record's key is less than the next one's. Many tables come so, and then no key is there
+// twice: asked before `key_rule_in`, it spares them the lists.
+pub fn is_ascending(s: &[u8], cells: &[u32], width: usize, records: usize, key: Key) -> bool
     ensures { λ r. ⌜ r ≡ ascending (keyOrder (table (now (s .entry)) (now (cells .entry)) width 0) key) records ⌝ }
 {
     let mut i = 0;
     while i + 1 < records {
-        match compare_keys(s, cells, width, key, i, i + 1) {
+        match compare_ids_first(s, cells, width, key, i, i + 1) {
             Compared::Less => {
                 i += 1;
             }
@@ -144,8 +180,7 @@ fn fill_key_sums(s: &[u8], cells: &[u32], width: usize, key: Key, sums: &mut [u3
 }
 
 // The first record whose key equals an earlier one's, through an order of the records in the lent
-// lists. Many tables come with their keys ascending: then no key is there twice, and nothing is put in
-// order. Where the lists are not as long as there are records, or the key's first field is no ID, every
+// lists. Where the lists are not as long as there are records, or the key's first field is no ID, every
 // record is compared with every other.
 pub fn key_rule_in(
     s: &[u8],
@@ -159,9 +194,6 @@ pub fn key_rule_in(
 ) -> KeyBreak
     ensures { λ r. ⌜ r ≡ keyRule (table (now (s .entry)) (now (cells .entry)) width records) key ⌝ }
 {
-    if is_ascending(s, cells, width, records, key) {
-        return KeyBreak { record: 0, same: 0 };
-    }
     if key.a_kind != 1 {
         return key_rule(s, cells, width, records, key);
     }

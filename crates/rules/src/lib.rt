@@ -8,6 +8,7 @@ ghost use Rattle.rule_target.specs.Target.{targetRule};
 ghost use Rattle.rule_tree.specs.Tree.{treeParentRule, leafRule};
 ghost use Rattle.rules.specs.Judge.{alone, ofKey, ofOutline, parentBreak, ruleBreak, isJudged, markOf};
 use mark_numbers::Mark;
+use ordered_key::is_ascending;
 use ordered_key::key_rule_in;
 use ordered_leaf::leaf_rule_in;
 use ordered_outline::parent_type_rule_in;
@@ -61,7 +62,7 @@ fn of_key(found: KeyBreak) -> Break
 }
 
 // The rule of marks 20–35, through an order of the records. No table has over 4,096.
-fn key_break(s: &[u8], cells: &[u32], width: usize, records: usize, key: Key) -> Break
+fn unordered_break(s: &[u8], cells: &[u32], width: usize, records: usize, key: Key) -> Break
     ensures { λ r. ⌜ r ≡ ofKey (keyRule (table (now (s .entry)) (now (cells .entry)) width records) key) ⌝ }
 {
     let mut sums = [0u32; 4096];
@@ -80,6 +81,20 @@ fn key_break(s: &[u8], cells: &[u32], width: usize, records: usize, key: Key) ->
         &mut order[..records],
         &mut scratch[..records],
     ))
+}
+
+// The rule of marks 20–35. Keys that ascend do not repeat, and many tables come so: then no list of 4,096 is
+// made and cleared.
+fn key_break(s: &[u8], cells: &[u32], width: usize, records: usize, key: Key) -> Break
+    ensures { λ r. ⌜ r ≡ ofKey (keyRule (table (now (s .entry)) (now (cells .entry)) width records) key) ⌝ }
+{
+    if is_ascending(s, cells, width, records, key) {
+        return Break {
+            record: 0,
+            other: 0,
+        };
+    }
+    unordered_break(s, cells, width, records, key)
 }
 
 fn of_outline(found: Outline) -> Break

@@ -20,11 +20,11 @@ loop-holds c = (omega arith, climb-starts _ _)
 add-loop : tie.Need-add-loop Inv-loop μ-loop
 add-loop c = omega arith
 
-add-compare-keys : tie.Need-add-compare-keys Inv-loop μ-loop
-add-compare-keys c = omega arith
+add-compare-ids-first : tie.Need-add-compare-ids-first Inv-loop μ-loop
+add-compare-ids-first c = omega arith
 
-compare-keys-requires : tie.Need-compare-keys-requires Inv-loop μ-loop
-compare-keys-requires c κs = search needs
+compare-ids-first-requires : tie.Need-compare-ids-first-requires Inv-loop μ-loop
+compare-ids-first-requires c κs = search needs
 
 enum-told : tie.Need-enum-told Inv-loop μ-loop
 enum-told c = search needs
@@ -37,19 +37,19 @@ loop-less c = omega arith
 
 loop-again : tie.Need-loop-again Inv-loop μ-loop
 loop-again c =
-    (omega arith, climb-goes-on _ _ _ (c .before .before .before .before .loop .inv .1) (c .before .before .before .loop-test .taken) _ (c .before .before .compare-keys .ensures) (c .enum-told .given .1))
+    (omega arith, climb-goes-on _ _ _ (c .before .before .before .before .loop .inv .1) (c .before .before .before .loop-test .taken) _ (c .before .before .compare-ids-first .ensures) (c .enum-told .given .1))
 
 enum-told-2 : tie.Need-enum-told-2 Inv-loop μ-loop
 enum-told-2 c = search needs
 
 returns : tie.Need-returns Inv-loop μ-loop
-returns c = same-no-rise _ _ _ (c .before .before .before .before .loop .inv .1) (c .before .before .before .loop-test .taken) _ (c .before .before .compare-keys .ensures) (c .enum-told2 .given .1)
+returns c = same-no-rise _ _ _ (c .before .before .before .before .loop .inv .1) (c .before .before .before .loop-test .taken) _ (c .before .before .compare-ids-first .ensures) (c .enum-told2 .given .1)
 
 enum-told-3 : tie.Need-enum-told-3 Inv-loop μ-loop
 enum-told-3 c = search needs
 
 returns-2 : tie.Need-returns-2 Inv-loop μ-loop
-returns-2 c = more-no-rise _ _ _ (c .before .before .before .before .loop .inv .1) (c .before .before .before .loop-test .taken) _ (c .before .before .compare-keys .ensures) (c .enum-told3 .given .1)
+returns-2 c = more-no-rise _ _ _ (c .before .before .before .before .loop .inv .1) (c .before .before .before .loop-test .taken) _ (c .before .before .compare-ids-first .ensures) (c .enum-told3 .given .1)
 
 returns-3 : tie.Need-returns-3 Inv-loop μ-loop
 returns-3 c = climb-ends _ _ _ (c .before .loop .inv .1) (c .loop-test .left)
@@ -62,8 +62,8 @@ is-ascending-spec =
     μ-loop
     loop-holds
     add-loop
-    add-compare-keys
-    compare-keys-requires
+    add-compare-ids-first
+    compare-ids-first-requires
     enum-told
     add-i
     loop-less

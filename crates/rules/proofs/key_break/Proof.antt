@@ -1,63 +1,22 @@
--- `rules::key_break` meets its contract: both ways answer the rule.
-use Prim.Native.Nat.{ℕ}
-use mathlib.Core.Path.{sym, ap, _∙_}
-use native.Mathlib.Omega.{arith}
-use lib.ListN.{length-replicate}
-use lib.Seq.{length-take-le}
+-- `rules::key_break` meets its contract: keys that ascend break nothing.
+use mathlib.Core.Path.{ap}
 use borrow.Author.Needs.{needs}
+use Rattle.ordered_key.proofs.Ascending.{ascending-gives-rule}
 use Rattle.rules.specs.Judge.{ofKey}
 use Rattle.rules.proofs.key_break.Statement.{statement}
 use Rattle.rules.proofs.key_break.Tie as tie
 
-key-rule-requires : tie.Need-key-rule-requires
-key-rule-requires c κs = search needs
-
-of-key-requires : tie.Need-of-key-requires
-of-key-requires c κs = search needs
+is-ascending-requires : tie.Need-is-ascending-requires
+is-ascending-requires c κs = search needs
 
 returns : tie.Need-returns
-returns c = c .of-key .ensures ∙ ap ofKey (c .before .key-rule .ensures)
+returns c = ap ofKey (ascending-gives-rule _ _ _ _ _ _ (c .before .is-ascending .ensures) (c .if1 .taken))
 
-array-borrow-prefix-sums : tie.Need-array-borrow-prefix-sums
-array-borrow-prefix-sums c = search needs
-
-slice-aggregate-key-rule-in : tie.Need-slice-aggregate-key-rule-in
-slice-aggregate-key-rule-in c = sym (length-take-le _ _ (omega (arith, length-replicate {A = ℕ} 4096 0)))
-
-array-borrow-prefix-order : tie.Need-array-borrow-prefix-order
-array-borrow-prefix-order c = search needs
-
-slice-aggregate-key-rule-in-2 : tie.Need-slice-aggregate-key-rule-in-2
-slice-aggregate-key-rule-in-2 c = sym (length-take-le _ _ (omega (arith, length-replicate {A = ℕ} 4096 0)))
-
-array-borrow-prefix-scratch : tie.Need-array-borrow-prefix-scratch
-array-borrow-prefix-scratch c = search needs
-
-slice-aggregate-key-rule-in-3 : tie.Need-slice-aggregate-key-rule-in-3
-slice-aggregate-key-rule-in-3 c = sym (length-take-le _ _ (omega (arith, length-replicate {A = ℕ} 4096 0)))
-
-key-rule-in-requires : tie.Need-key-rule-in-requires
-key-rule-in-requires c κs = search needs
-
-of-key-requires-2 : tie.Need-of-key-requires-2
-of-key-requires-2 c κs = search needs
+unordered-break-requires : tie.Need-unordered-break-requires
+unordered-break-requires c κs = search needs
 
 returns-2 : tie.Need-returns-2
-returns-2 c = c .of-key2 .ensures ∙ ap ofKey (c .before .before .before .before .key-rule-in .ensures)
+returns-2 c = search needs
 
 pub key-break-spec : {M : Type 1} → statement M
-key-break-spec =
-    tie.close
-    (tie.spec
-    key-rule-requires
-    of-key-requires
-    returns
-    array-borrow-prefix-sums
-    slice-aggregate-key-rule-in
-    array-borrow-prefix-order
-    slice-aggregate-key-rule-in-2
-    array-borrow-prefix-scratch
-    slice-aggregate-key-rule-in-3
-    key-rule-in-requires
-    of-key-requires-2
-    returns-2)
+key-break-spec = tie.close (tie.spec is-ascending-requires returns unordered-break-requires returns-2)
