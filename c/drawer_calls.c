@@ -210,7 +210,7 @@ static void judging(void) {
     hand_two();
     expect("two files", 0, knotsaddle_drawer_judge_in(drawer, SIZE, &board, work, KNOTSADDLE_WORKSPACE));
     expect("their marks hold", 0, board.kinds[8] + board.kinds[9]);
-    expect("in a workspace that was used", 1, worked() > 0);
+    expect("of the workspace as much as they have records, which is nothing", 0, worked());
     expect("and in another one the same", 1, is_right());
     lay(drawer, 9, EMPTY + 10, "[ ");
     expect("a file that is no JSON", 0, knotsaddle_drawer_judge_files(drawer, SIZE, &board));
@@ -298,7 +298,7 @@ static void changing(void) {
     expect("and a change", 0, knotsaddle_drawer_make_in(drawer, SIZE, &board, PUT(8, "[]"), work, KNOTSADDLE_WORKSPACE));
     expect("four marks too", 4, judged());
     expect("the drawer after it", 0, otherwise());
-    expect("the workspace was used", 1, worked() > 0);
+    expect("no record, so nothing of the workspace was used", 0, worked());
 }
 
 static void no_room(void) {

@@ -4,9 +4,11 @@ use Prim.Native.Nat.{ℕ, _+_, _-_, _*_, _/_, _≤_, _<_}
 use mathlib.Core.Path.{_≡_, refl, sym}
 use mathlib.Core.Bool.{Bool, true, false, _&&_}
 use mathlib.Core.List.{List, []}
+use native.Mathlib.Nat.{mul-zero, le-div-iff-mul-le, div-lt-iff-lt-mul}
 use native.Mathlib.Omega.{arith}
 use borrow.Author.Tests.{lt-ltb, le-ltb}
-use lib.ListN.{length, getD, drop, length-drop, List·getD-eq-default}
+use lib.ListN.{length, getD, take, drop, length-drop, List·getD-eq-default}
+use lib.Seq.{take-all}
 use lib.Dec.{ltb, eqb}
 use Rattle.json_bytes.proofs.Laws.{by-test, leading-bound}
 use Rattle.parts.specs.Part.{partOf}
@@ -31,6 +33,17 @@ and-false false = refl
 pub cells-none : (work starts : List ℕ) (k : ℕ) → length starts ≤ k → [] ≡ partOf work (getD starts k 0) (getD starts (k + 1) 0)
 cells-none work starts k l =
     sym (rw (List·getD-eq-default starts 0 l, List·getD-eq-default starts 0 {n = k + 1} (omega arith)) (part-is work 0 0 (omega arith) (omega arith)))
+
+-- ---- of its cells those of so many records
+module _ (cells : List ℕ) (width records : ℕ) where
+  pub no-width : width ≡ 0 → [] ≡ take (records * width) cells
+  no-width e = rw (e, mul-zero records)
+
+  pub records-fit : (width ≡ 0 → ⊥) → records ≤ length cells / width → records * width ≤ length cells
+  records-fit n l = le-div-iff-mul-le {k = width} (omega arith) .0 l
+
+  pub too-many-records : (width ≡ 0 → ⊥) → length cells / width < records → cells ≡ take (records * width) cells
+  too-many-records n h = sym (take-all (records * width) cells (omega (arith, div-lt-iff-lt-mul {k = width} (omega arith) .0 h)))
 
 -- ---- how many fields a file has, by the lent tables
 pub count-within : (forms fields : List ℕ) (k : ℕ) → countIn forms fields k ≤ length fields / 5
@@ -59,15 +72,15 @@ module _ (values texts : List ℕ) (rule : Rule) (files : ℕ → File) (count :
   unfolding ruleMarkIn markOf
   rule-unjudged e = rw (judged-by false e)
 
-  pub rule-judged : judged ≡ true → (s u : List ℕ) → s ≡ bytesOf (files first) → u ≡ bytesOf (files second) → (cells «u-cells» : List ℕ)
-      → cells ≡ partOf work (getD starts first 0) (getD starts (first + 1) 0) → «u-cells» ≡ partOf work (getD starts second 0) (getD starts (second + 1) 0)
-      → (width «u-width» : ℕ) → width ≡ 2 * count first → «u-width» ≡ 2 * count second
-      → (n «u-n» : ℕ) → n ≡ getD records first 0 → «u-n» ≡ getD records second 0
+  pub rule-judged : judged ≡ true → (s u : List ℕ) → s ≡ bytesOf (files first) → u ≡ bytesOf (files second) → (width «u-width» : ℕ) → width ≡ 2 * count first → «u-width» ≡ 2 * count second
+      → (n «u-n» : ℕ) → n ≡ getD records first 0 → «u-n» ≡ getD records second 0 → (all «u-all» : List ℕ)
+      → all ≡ partOf work (getD starts first 0) (getD starts (first + 1) 0) → «u-all» ≡ partOf work (getD starts second 0) (getD starts (second + 1) 0)
+      → (cells «u-cells» : List ℕ) → cells ≡ take (n * width) all → «u-cells» ≡ take («u-n» * «u-width») «u-all»
       → (b : Break) → b ≡ ruleBreak values texts rule (table s cells width n) (table u «u-cells» «u-width» «u-n»)
       → (r : Mark) → r ≡ markOf true b → r ≡ ruleMarkIn values texts (tableIn files count starts work records) kinds rule
   unfolding ruleMarkIn tableIn
-  rule-judged e s u s-is u-is cells «u-cells» cells-are «u-cells-are» width «u-width» width-is «u-width-is» n «u-n» n-is «u-n-is» b b-is r r-is =
-      rw (r-is, b-is, s-is, u-is, cells-are, «u-cells-are», width-is, «u-width-is», n-is, «u-n-is», first-is, second-is, judged-by true e)
+  rule-judged e s u s-is u-is width «u-width» width-is «u-width-is» n «u-n» n-is «u-n-is» all «u-all» all-are «u-all-are» cells «u-cells» cells-are «u-cells-are» b b-is r r-is =
+      rw (r-is, b-is, s-is, u-is, cells-are, «u-cells-are», all-are, «u-all-are», width-is, «u-width-is», n-is, «u-n-is», first-is, second-is, judged-by true e)
 
 -- and that of any mark which is no file's own
 module _ (n : ℕ) (rule : ℕ → Rule) (values texts : List ℕ) (tables : ℕ → Table) (own : Marks) (m : ℕ) (l : n ≤ m) where

@@ -3,7 +3,7 @@
 use Prim.Native.Nat.{ℕ, _+_, _-_, _*_}
 use mathlib.Core.Bool.{cond, _&&_}
 use mathlib.Core.List.{List}
-use lib.ListN.{getD}
+use lib.ListN.{getD, take}
 use lib.Dec.{ltb}
 use Rattle.parts.specs.Part.{partOf}
 use Rattle.parts.specs.Files.{File, bytesOf}
@@ -19,10 +19,11 @@ use Rattle.rules.specs.Judge.{ruleBreak, isJudged, markOf}
 unfoldable pub countIn : List ℕ → List ℕ → ℕ → ℕ
 countIn forms fields k = cond (ltb 1 (cellAt forms 2 k 0)) 0 (fieldCount fields k)
 
--- a file's table from what was read: its cells stand in the list from one start up to the next
+-- a file's table from what was read: its cells stand in the list from one start up to the next, those of its records first, and what stands
+-- behind these is not handed on
 unfoldable pub tableIn : (ℕ → File) → (ℕ → ℕ) → List ℕ → List ℕ → List ℕ → ℕ → Table
 tableIn files count starts work records k =
-    table (bytesOf (files k)) (partOf work (getD starts k 0) (getD starts (k + 1) 0)) (2 * count k) (getD records k 0)
+    table (bytesOf (files k)) (take (getD records k 0 * (2 * count k)) (partOf work (getD starts k 0) (getD starts (k + 1) 0))) (2 * count k) (getD records k 0)
 
 -- the mark of a rule from such tables and the kinds of the files' marks
 unfoldable pub ruleMarkIn : List ℕ → List ℕ → (ℕ → Table) → List ℕ → Rule → Mark

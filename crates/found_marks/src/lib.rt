@@ -2,7 +2,7 @@
 // and the number of its records in lists of their own. What stands past the end of a list is 0.
 ghost use mathlib.Core.Path.{_≡_};
 ghost use Prim.Native.Nat.{_+_, _*_};
-ghost use lib.ListN.{getD};
+ghost use lib.ListN.{getD, take};
 ghost use Rattle.parts.specs.Part.{partOf};
 ghost use Rattle.standing.specs.Standing.{standing};
 ghost use Rattle.mark_numbers.specs.Marks.{marksIn};
@@ -56,6 +56,19 @@ pub fn cells_of<'a>(work: &'a [u32], starts: &[usize], k: usize) -> &'a [u32]
     &work[from..to]
 }
 
+// Of a file's cells those of its records: what stands behind them is what stood there before, and tells nothing.
+fn record_cells(cells: &[u32], width: usize, records: usize) -> &[u32]
+    ensures { λ r. ⌜ now r ≡ take (records * width) (now (cells .entry)) ⌝ }
+{
+    if width == 0 {
+        return &cells[..0];
+    }
+    if cells.len() / width < records {
+        return cells;
+    }
+    &cells[0..records * width]
+}
+
 // Rule i over files that have been read, which have marks of these kinds and so many records.
 fn rule_mark<'a>(
     a: &'a [u8],
@@ -86,17 +99,21 @@ fn rule_mark<'a>(
     }
     let s = part_standing(a, b, c, stand, first);
     let u = part_standing(a, b, c, stand, second);
+    let width = width_of(forms, fields, first);
+    let n = number_at(records, first);
+    let u_width = width_of(forms, fields, second);
+    let u_n = number_at(records, second);
     let found = rule_break(
         rules,
         i,
         s,
-        cells_of(work, starts, first),
-        width_of(forms, fields, first),
-        number_at(records, first),
+        record_cells(cells_of(work, starts, first), width, n),
+        width,
+        n,
         u,
-        cells_of(work, starts, second),
-        width_of(forms, fields, second),
-        number_at(records, second),
+        record_cells(cells_of(work, starts, second), u_width, u_n),
+        u_width,
+        u_n,
         values,
         texts,
     );

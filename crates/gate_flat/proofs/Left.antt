@@ -78,7 +78,7 @@ module _ (scope : Scope) (files : ℕ → File) (work : List ℕ) (places : ℕ)
       there =
           let space : 794702 + 16384 * 16 ≤ length work = omega (arith, room (sym same-refusal ∙ z) .0, workspace-is) in
           let listed : Stands (setListed schedule scope files work) 794702 (flatOf es) = rw workspace-is (stand-listed (schedule .expected) (isNeeded schedule scope) files 794702 work (omega arith) 16 space) in
-          rw (left-is, eq-eqb (r .refusal) 0 z) (stand-read (schedule .expected) (isNeeded schedule scope) files 794702 (flatOf es) (setListed schedule scope files work) (schedule .files) room-before listed)
+          rw (left-is, eq-eqb (r .refusal) 0 z) (stand-read _ (schedule .expected) (isNeeded schedule scope) files 794702 (flatOf es) (setListed schedule scope files work) (schedule .files) room-before listed)
 
     pub within : (r .entries ≤ places) × (0 < r .entries → 794702 + 4 * r .entries ≤ length left)
     within = go (eqb (r .refusal) 0) refl

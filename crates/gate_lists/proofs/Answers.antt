@@ -68,7 +68,7 @@ module _ (g : Gate) (scope : Scope) (standing files : ℕ → File) (handed : Ma
 
   pub judged-work : {last : List ℕ} → last ≡ workAfterwards g scope standing handed work → last ≡ workJudged g scope files work
   unfolding workAfterwards workJudged
-  judged-work e = e ∙ rw can (work-same (g .expected) _ standing files work (g .files) same)
+  judged-work e = e ∙ rw can (work-same _ (g .expected) _ standing files work (g .files) same)
 
 -- ---- a full judgement
 module _ (g : Gate) (s : List ℕ) (lent : ℕ) (handed : Marks) where

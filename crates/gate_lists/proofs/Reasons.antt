@@ -86,7 +86,7 @@ module _ (g : Gate) (s : List ℕ) (m : ℕ) (work : List ℕ) {room : ℕ} (roo
       left-there : workTold g files m work ≡ cond (ltb m (marksOf g)) (workJudged g (Scope.Mark m) (fileAt s) work) work
       unfolding workTold workJudged
       left-there =
-          go (ltb m (marksOf g)) (work-same (g .expected) (isNeeded g (Scope.Mark m)) files (fileAt s) work (g .files) same)
+          go (ltb m (marksOf g)) (work-same _ (g .expected) (isNeeded g (Scope.Mark m)) files (fileAt s) work (g .files) same)
         where
           go : (t : Bool) {a b : List ℕ} → a ≡ b → cond (t && canTell g (length work)) a work ≡ cond t b work
           go true e = rw can-tell e

@@ -1,7 +1,7 @@
 -- What callers cite: a mark is decided by the files that it reads, and stays as it was where another is changed; which files
 -- are read; and what stands in the list of cells afterwards.
 -- Assumes nothing.
-use Prim.Native.Nat.{ℕ, zero, suc, _+_, _-_, _≤_, _<_}
+use Prim.Native.Nat.{ℕ, zero, suc, _+_, _-_, _*_, _≤_, _<_}
 use mathlib.Core.Path.{_≡_, refl, sym, ap, _∙_}
 use mathlib.Core.Bool.{Bool, true, false, cond, _&&_, _||_, true≢false}
 use mathlib.Core.Logic.{⊎-elim}
@@ -10,7 +10,7 @@ use native.Mathlib.Nat.{eq-or-lt-of-le}
 use native.Mathlib.Numerals.{add-one}
 use native.Mathlib.Omega.{arith}
 use borrow.Author.Tests.{lt-ltb, le-ltb, eq-eqb, ltb-true, ltb-false, eqb-true}
-use lib.ListN.{length}
+use lib.ListN.{length, getD}
 use lib.Dec.{ltb, eqb}
 use Rattle.json_bytes.proofs.Laws.{by-test, both-left, both-right}
 use Rattle.parts.specs.Files.{File}
@@ -19,16 +19,16 @@ use Rattle.bundle_bytes.proofs.Laws.{changed-other}
 use Rattle.mark_numbers.specs.declared.Mark.{Mark}
 use Rattle.mark_numbers.specs.Marks.{Marks, markIn, notJudged}
 use Rattle.mark_numbers.proofs.Laws.{mark-of-marks}
-use Rattle.table_file.specs.File.{Expected}
+use Rattle.table_file.specs.File.{Expected, fileOf}
 use Rattle.rule_shape.specs.declared.Rule.{Rule}
 use Rattle.rule_shape.specs.Rule.{firstFileOf, secondFileOf, reads}
 use Rattle.gate_marks.specs.declared.Scope.{Scope}
 use Rattle.gate_marks.specs.declared.Scope.the-variants.{Full}
 use Rattle.gate_marks.specs.Gate.{Gate, marksOf, ruleOfMark, markReads, readsFile}
-use Rattle.gate_marks.specs.Work.{roomStart, cellsIn, readOf, workRead}
+use Rattle.gate_marks.specs.Work.{widthOf, roomStart, cellsIn, readOf, cellsBefore, workRead}
 use Rattle.gate_marks.specs.Marks.{fileMark, ruleMarkAt, markAt, fullMarks}
 use Rattle.gate_marks.specs.Again.{asked, touched, isTouched, newMark, newMarks, neededFrom, needed, isNeeded}
-use Rattle.gate_marks.proofs.Rooms.{room-grows, work-length, cells-other, cells-read}
+use Rattle.gate_marks.proofs.Rooms.{room-grows, work-length, cells-other, cells-read, records-same}
 use Rattle.gate_marks.proofs.Reading.{by-last}
 
 -- ---- the files that a mark reads
@@ -176,32 +176,45 @@ module _ (g : Gate) (m : ℕ) where
           mark-of-marks (marksOf g) (newMark g (Scope.Mark m) files handed) k (omega arith) ∙ rw (asked-own k l e, lt-ltb k (g .files) l, newMark)
 
 -- ---- what is left in the list of cells
-module _ (expected : ℕ → Expected) (needed : ℕ → Bool) (files : ℕ → File) (lent : List ℕ) where
-  pub work-long : (n : ℕ) → length (workRead expected needed files n lent) ≡ length lent
+module _ (cleared : Bool) (expected : ℕ → Expected) (needed : ℕ → Bool) (files : ℕ → File) (lent : List ℕ) where
+  pub work-long : (n : ℕ) → length (workRead cleared expected needed files n lent) ≡ length lent
   unfolding workRead
   work-long zero = refl
   work-long (suc n) =
-      by-test {A = List ℕ} (λ r. length r ≡ length lent) (needed n) _ _ (λ _. work-length expected n (files n) (workRead expected needed files n lent) ∙ work-long n) (λ _. work-long n)
+      by-test {A = List ℕ} (λ r. length r ≡ length lent) (needed n) _ _ (λ _. work-length expected cleared n (files n) (workRead cleared expected needed files n lent) ∙ work-long n) (λ _. work-long n)
 
-  -- the cells of a file that is needed stand in their place, and what stood in the place of any other is there still
-  pub cells-needed : (n f : ℕ) → roomStart expected n ≤ length lent → f < n → needed f ≡ true → cellsIn expected (workRead expected needed files n lent) f ≡ readOf (expected f) (files f) .cells
+  -- what holds of the cells of a file that is needed, over whatever list it is read, holds of those in its place
+  cells-hold : (Q : List ℕ → Type 0) (f : ℕ) → ((work : List ℕ) → length work ≡ length lent → Q (fileOf (expected f) (files f) (cellsBefore cleared expected work f) .cells)) → (n : ℕ) → roomStart expected n ≤ length lent → f < n → needed f ≡ true → Q (cellsIn expected (workRead cleared expected needed files n lent) f)
   unfolding workRead
-  cells-needed zero f room l e = absurd (omega arith)
-  cells-needed (suc n) f room l e =
-      let before = workRead expected needed files n lent in
+  cells-hold Q f holds zero room l e = absurd (omega arith)
+  cells-hold Q f holds (suc n) room l e =
+      let before = workRead cleared expected needed files n lent in
       let least : roomStart expected n ≤ length lent = omega (arith, room-grows expected n (suc n) (omega arith)) in
-      by-last f n (omega arith) (λ q. let here : needed n ≡ true = rw q at e in rw (q, here) (cells-read expected n (files n) before (omega (arith, work-long n, ap (roomStart expected) (add-one n)))))
-      (λ h other. by-test (λ r. cellsIn expected r f ≡ readOf (expected f) (files f) .cells) (needed n) _ _ (λ _. cells-other expected n (files n) before f other ∙ cells-needed n f least h e) (λ _. cells-needed n f least h e))
+      by-last f n (omega arith) (λ q. let here : needed n ≡ true = rw q at e in rw (q, here, cells-read expected cleared n (files n) before (omega (arith, work-long n, ap (roomStart expected) (add-one n)))) (rw q at (holds before (work-long n))))
+      (λ h other. by-test (λ r. Q (cellsIn expected r f)) (needed n) _ _ (λ _. rw (cells-other expected cleared n (files n) before f other) (cells-hold Q f holds n least h e)) (λ _. cells-hold Q f holds n least h e))
 
-  pub cells-kept : (n f : ℕ) → needed f ≡ false → cellsIn expected (workRead expected needed files n lent) f ≡ cellsIn expected lent f
+  -- the cells of its records stand there
+  pub records-needed : (n f : ℕ) → roomStart expected n ≤ length lent → f < n → needed f ≡ true → (i : ℕ) → i < readOf (expected f) (files f) .read .records * widthOf (expected f .form) → getD (cellsIn expected (workRead cleared expected needed files n lent) f) i 0 ≡ getD (readOf (expected f) (files f) .cells) i 0
+  records-needed n f room l e =
+      cells-hold (λ c. (i : ℕ) → i < readOf (expected f) (files f) .read .records * widthOf (expected f .form) → getD c i 0 ≡ getD (readOf (expected f) (files f) .cells) i 0) f
+      (λ work long. records-same expected cleared f (files f) work (omega (arith, long, room-grows expected (f + 1) n (omega arith)))) n room l e
+
+  -- and what stood in the place of a file that is not needed is there still
+  pub cells-kept : (n f : ℕ) → needed f ≡ false → cellsIn expected (workRead cleared expected needed files n lent) f ≡ cellsIn expected lent f
   unfolding workRead
   cells-kept zero f e = refl
   cells-kept (suc n) f e =
-      by-test (λ r. cellsIn expected r f ≡ cellsIn expected lent f) (needed n) _ _ (λ t. cells-other expected n (files n) (workRead expected needed files n lent) f (λ q. true≢false (sym t ∙ ap needed (sym q) ∙ e)) ∙ cells-kept n f e) (λ _. cells-kept n f e)
+      by-test (λ r. cellsIn expected r f ≡ cellsIn expected lent f) (needed n) _ _ (λ t. cells-other expected cleared n (files n) (workRead cleared expected needed files n lent) f (λ q. true≢false (sym t ∙ ap needed (sym q) ∙ e)) ∙ cells-kept n f e) (λ _. cells-kept n f e)
+
+-- read over cells that are 0, all of them are those of the file
+pub cells-needed : (expected : ℕ → Expected) (needed : ℕ → Bool) (files : ℕ → File) (lent : List ℕ) (n f : ℕ) → roomStart expected n ≤ length lent → f < n → needed f ≡ true → cellsIn expected (workRead true expected needed files n lent) f ≡ readOf (expected f) (files f) .cells
+unfolding cellsBefore readOf
+cells-needed expected needed files lent n f room l e =
+    cells-hold true expected needed files lent (λ c. c ≡ readOf (expected f) (files f) .cells) f (λ work long. refl) n room l e
 
 -- of files that are the same, the same
-pub work-same : (expected : ℕ → Expected) (needed : ℕ → Bool) (files others : ℕ → File) (lent : List ℕ) (n : ℕ) → ((i : ℕ) → i < n → files i ≡ others i) → workRead expected needed files n lent ≡ workRead expected needed others n lent
+pub work-same : (cleared : Bool) (expected : ℕ → Expected) (needed : ℕ → Bool) (files others : ℕ → File) (lent : List ℕ) (n : ℕ) → ((i : ℕ) → i < n → files i ≡ others i) → workRead cleared expected needed files n lent ≡ workRead cleared expected needed others n lent
 unfolding workRead
-work-same expected needed files others lent zero same = refl
-work-same expected needed files others lent (suc n) same =
-    rw (same n (omega arith), work-same expected needed files others lent n (λ i l. same i (omega arith)))
+work-same cleared expected needed files others lent zero same = refl
+work-same cleared expected needed files others lent (suc n) same =
+    rw (same n (omega arith), work-same cleared expected needed files others lent n (λ i l. same i (omega arith)))

@@ -1,31 +1,37 @@
 -- Marks judged from what was read, put over those that were handed in, and how the whole then ends.
 -- Assumes nothing.
-use Prim.Native.Nat.{ℕ, suc, _+_, _-_, _*_, _/_, _≤_, _<_}
+use Prim.Native.Nat.{ℕ, zero, suc, _+_, _-_, _*_, _/_, _≤_, _<_}
 use mathlib.Core.Path.{_≡_, refl, sym, ap, _∙_}
 use mathlib.Core.Bool.{Bool, true, false, cond, _&&_}
 use mathlib.Core.List.{List}
-use native.Mathlib.Nat.{sub-zero}
+use native.Mathlib.Nat.{sub-zero, min-le-left}
 use native.Mathlib.Numerals.{add-one}
 use native.Mathlib.Omega.{arith}
-use borrow.Author.Tests.{le-ltb, le-leb, lt-leb, eq-eqb, ne-eqb}
-use lib.ListN.{length, getD}
-use lib.Dec.{leb, eqb}
-use Rattle.parts.specs.Files.{File}
+use borrow.Author.Tests.{le-ltb, le-leb, lt-leb, eq-eqb, ne-eqb, eqb-true, ltb-true, ltb-false}
+use lib.ListN.{length, getD, take, length-take, List·getD-eq-default}
+use lib.Seq.{getD-take}
+use lib.Dec.{leb, ltb, eqb}
+use Rattle.parts.specs.Files.{File, bytesOf}
 use Rattle.mark_numbers.specs.declared.Mark.{Mark}
 use Rattle.mark_numbers.specs.Marks.{Marks, marksIn, marksFrom, markIn, haveLength}
 use Rattle.mark_numbers.proofs.Laws.{marks-same}
 use Rattle.table_file.specs.File.{Expected}
+use Rattle.table_file.proofs.Behind.{behind-kept}
+use Rattle.rule_cells.specs.Cells.{table}
+use Rattle.rules.specs.declared.Break.{Break}
+use Rattle.rules.specs.Judge.{isJudged, markOf}
+use Rattle.rules.proofs.Alike.{rule-alike}
 use Rattle.rule_shape.specs.declared.Rule.{Rule}
 use Rattle.rule_shape.specs.Rule.{firstFileOf, secondFileOf, reads, ruleFrom}
 use Rattle.found_marks.specs.Found.{countIn, tableIn, ruleMarkIn, foundMark}
 use Rattle.found_marks.proofs.Laws.{and-false}
 use Rattle.gate_marks.specs.declared.Scope.{Scope}
 use Rattle.gate_marks.specs.Gate.{Gate, marksOf, ruleOfMark, markReads, expectedIn, gateFrom}
-use Rattle.gate_marks.specs.Work.{widthOf, roomStart, cellsIn, readOf, workRead}
+use Rattle.gate_marks.specs.Work.{zeros, widthOf, roomOf, roomStart, cellsIn, readOf, workRead}
 use Rattle.gate_marks.specs.Marks.{markRead, fileMark, tableOf, ruleMark, ruleMarkAt, markAt}
-use Rattle.gate_marks.specs.Again.{touched, isTouched, newMark, newMarks, neededFrom, needed, isNeeded, workJudged, canJudge, hasRoom, hasLists, workspaceOf, marksAfter, workAfterwards}
+use Rattle.gate_marks.specs.Again.{touched, isTouched, newMark, newMarks, neededFrom, needed, isNeeded, isCleared, workJudged, canJudge, hasRoom, hasLists, workspaceOf, marksAfter, workAfterwards}
 use Rattle.gate_marks.specs.Code.{roomsIn, Starts, ReadTo, putMark}
-use Rattle.gate_marks.proofs.Rooms.{width-is, room-by}
+use Rattle.gate_marks.proofs.Rooms.{width-is, width-counted, room-by}
 use Rattle.gate_marks.proofs.Laws.{own-reads, first-reads, second-reads, same-mark, needed-by}
 
 -- ---- whether mark m reads a file, as the code asks it of a rule
@@ -62,14 +68,53 @@ module _ (n : ℕ) (rule : ℕ → Rule) (scope : Scope) (file marks m : ℕ) wh
       let q : marks - m ≡ 0 = omega arith in
       rw q
 
+-- ---- what a rule finds counts only where both its files hold
+judged-same : (first second : ℕ) (b d : Break) → (first ≡ 0 → second ≡ 0 → b ≡ d) → markOf (isJudged first second) b ≡ markOf (isJudged first second) d
+unfolding isJudged markOf
+judged-same first second b d same = go (eqb first 0) refl (eqb second 0) refl
+  where
+    go : (t : Bool) → eqb first 0 ≡ t → (u : Bool) → eqb second 0 ≡ u → markOf (t && u) b ≡ markOf (t && u) d
+    go true e true h = ap (markOf true) (same (eqb-true first 0 e) (eqb-true second 0 h))
+    go true e false h = refl
+    go false e u h = refl
+
+take-short : (n : ℕ) (l : List ℕ) → length (take n l) ≤ n
+take-short n l = omega (arith, length-take n l, min-le-left n (length l))
+
+-- ---- a file that holds, read over 0: behind its records 0
+zero-at : (n i : ℕ) → getD (zeros n) i 0 ≡ 0
+unfolding zeros
+zero-at zero i = refl
+zero-at (suc n) zero = refl
+zero-at (suc n) (suc i) = zero-at n i
+
+zero-behind : (e : Expected) (f : File) → readOf e f .read .kind ≡ 0 → (i : ℕ) → readOf e f .read .records * widthOf (e .form) ≤ i → getD (readOf e f .cells) i 0 ≡ 0
+unfolding readOf
+zero-behind e f z i l =
+    behind-kept e f (zeros (roomOf (e .form))) z i (rw (← width-counted (e .form)) l) ∙ zero-at (roomOf (e .form)) i
+
 -- ---- a mark judged from what was read is that of the files
 module _ (g : Gate) (scope : Scope) (files : ℕ → File) (count : ℕ → ℕ) (widths : (k : ℕ) → 2 * count k ≡ widthOf (g .expected k .form))
     (starts work : List ℕ) (own : Marks) (records : List ℕ) (begins : Starts (roomStart (g .expected)) (g .files) starts)
     (read : ReadTo (g .files) (g .expected) (isNeeded g scope) files work own records) where
-  table-is : (k : ℕ) → k < g .files → isNeeded g scope k ≡ true → tableIn files count starts work records k ≡ tableOf (g .expected k) (files k)
-  unfolding tableIn tableOf cellsIn
+  -- a table as the code hands it on: the cells of its records
+  table-is : (k : ℕ) → k < g .files → isNeeded g scope k ≡ true → tableIn files count starts work records k ≡ table (bytesOf (files k)) (take (readOf (g .expected k) (files k) .read .records * widthOf (g .expected k .form)) (cellsIn (g .expected) work k)) (widthOf (g .expected k .form)) (readOf (g .expected k) (files k) .read .records)
+  unfolding tableIn cellsIn
   table-is k l e =
-      rw (add-one k, begins .at k (omega arith), begins .at (suc k) l, widths k, read .records-at k l e, read .cell-part k l e)
+      rw (add-one k, begins .at k (omega arith), begins .at (suc k) l, widths k, read .records-at k l e)
+
+  -- where the file holds, they are at every place those of the file read over 0, as these are 0 behind its records
+  cells-are : (k : ℕ) → k < g .files → isNeeded g scope k ≡ true → readOf (g .expected k) (files k) .read .kind ≡ 0 → (i : ℕ) → getD (take (readOf (g .expected k) (files k) .read .records * widthOf (g .expected k .form)) (cellsIn (g .expected) work k)) i 0 ≡ getD (readOf (g .expected k) (files k) .cells) i 0
+  cells-are k l e z i = go (ltb i size) refl
+    where
+      size : ℕ
+      size = readOf (g .expected k) (files k) .read .records * widthOf (g .expected k .form)
+
+      go : (t : Bool) → ltb i size ≡ t → getD (take size (cellsIn (g .expected) work k)) i 0 ≡ getD (readOf (g .expected k) (files k) .cells) i 0
+      go true h = getD-take size (cellsIn (g .expected) work k) i 0 (ltb-true i size h) ∙ read .cells-at k l e i (ltb-true i size h)
+      go false h =
+          List·getD-eq-default (take size (cellsIn (g .expected) work k)) 0 (omega (arith, ltb-false i size h, take-short size (cellsIn (g .expected) work k)))
+          ∙ sym (zero-behind (g .expected k) (files k) z i (ltb-false i size h))
 
   module _ (m : ℕ) (few : m < marksOf g) (hit : isTouched g scope m ≡ true) where
     is-needed : (k : ℕ) → markReads (g .files) (g .rule) m k ≡ true → isNeeded g scope k ≡ true
@@ -85,11 +130,13 @@ module _ (g : Gate) (scope : Scope) (files : ℕ → File) (count : ℕ → ℕ)
     kind-is k l e = ap (λ x. x .kind) (read .mark-at k l e)
 
     rule-is : g .files ≤ m → firstFileOf (ruleOfMark g m) < g .files → secondFileOf (ruleOfMark g m) < g .files → ruleMarkIn (g .values) (g .texts) (tableIn files count starts work records) (own .kinds) (ruleOfMark g m) ≡ ruleMark g (ruleOfMark g m) (files (firstFileOf (ruleOfMark g m))) (files (secondFileOf (ruleOfMark g m)))
-    unfolding ruleMarkIn ruleMark
+    unfolding ruleMarkIn ruleMark tableOf
     rule-is l a b =
         let first = is-needed (firstFileOf (ruleOfMark g m)) (first-reads (g .files) (g .rule) m l) in
         let second = is-needed (secondFileOf (ruleOfMark g m)) (second-reads (g .files) (g .rule) m l) in
         rw (kind-is _ a first, kind-is _ b second, table-is _ a first, table-is _ b second)
+        (judged-same (readOf (g .expected (firstFileOf (ruleOfMark g m))) (files (firstFileOf (ruleOfMark g m))) .read .kind) (readOf (g .expected (secondFileOf (ruleOfMark g m))) (files (secondFileOf (ruleOfMark g m))) .read .kind) _ _
+        (λ y z. rule-alike (g .values) (g .texts) _ _ _ _ _ _ _ _ _ _ (cells-are _ a first y) (cells-are _ b second z) (ruleOfMark g m)))
 
     found-is : foundMark (g .files) (g .rule) (g .values) (g .texts) (tableIn files count starts work records) own m ≡ markAt g m files
     unfolding foundMark markAt ruleMarkAt
@@ -163,7 +210,7 @@ module _ (forms fields names fixed rules values texts : List ℕ) (scope : Scope
   found starts work records own =
       foundMark n (ruleFrom rules) values texts (tableIn files (countIn forms fields) starts work records) own
 
-  pub marks-judged : (starts lent work kinds places companions records : List ℕ) → Starts (roomStart expected) n starts → ReadTo n expected wanted files work (marksIn kinds places companions) records × (work ≡ workRead expected wanted files n lent)
+  pub marks-judged : (starts lent work kinds places companions records : List ℕ) → Starts (roomStart expected) n starts → ReadTo n expected wanted files work (marksIn kinds places companions) records × (work ≡ workRead (isCleared scope) expected wanted files n lent)
       → (handed last : Marks) → last ≡ marksFrom marks (putMark n (ruleFrom rules) scope (found starts work records (marksIn kinds places companions)) handed)
       → (last ≡ newMarks gate scope files handed) × (work ≡ workJudged gate scope files lent)
   unfolding gateFrom workJudged marksOf

@@ -3,15 +3,15 @@
 -- Assumes nothing.
 use Prim.Native.Nat.{ℕ, zero, suc, _+_, _-_, _*_, _≤_, _<_}
 use mathlib.Core.Path.{_≡_, refl, sym, ap, _∙_}
-use mathlib.Core.Bool.{Bool, true, false, cond, true≢false}
+use mathlib.Core.Bool.{Bool, true, false, cond, _&&_, true≢false}
 use mathlib.Core.Logic.{_⊎_, inl, inr, ⊎-elim}
 use mathlib.Core.List.{List, [], _∷_, _++_, append-nil}
-use native.Mathlib.Nat.{eq-or-lt-of-le, le-of-suc-le-suc}
+use native.Mathlib.Nat.{eq-or-lt-of-le, le-of-suc-le-suc, min-le-left}
 use native.Mathlib.Numerals.{add-one}
 use native.Mathlib.Omega.{arith}
 use borrow.Author.Tests.{lt-ltb, le-ltb, le-leb, lt-leb, eq-eqb, ne-eqb, ltb-true, ltb-false, leb-true}
-use lib.ListN.{length, getD, set, take, drop, drop-of-length-le}
-use lib.Seq.{drop-cons, set-at, append-snoc, getD-set-same, getD-set-other}
+use lib.ListN.{length, getD, set, take, drop, length-take, length-drop, drop-of-length-le}
+use lib.Seq.{drop-cons, set-at, append-snoc, getD-set-same, getD-set-other, length-take-le}
 use lib.Dec.{leb, ltb, eqb}
 use Rattle.parts.specs.Part.{partOf}
 use Rattle.parts.specs.Files.{File}
@@ -20,12 +20,15 @@ use Rattle.bundle_bytes.specs.Pieces.{written}
 use Rattle.bundle_bytes.proofs.Laws.{written-length, written-part, written-part-before, written-part-behind}
 use Rattle.table_rows.specs.Rows.{cellAt, Field, fieldCount, fieldsIn}
 use Rattle.table_rows.proofs.Laws.{fields-in-length}
-use Rattle.table_file.specs.File.{Expected, formFrom}
+use Rattle.table_file.specs.File.{Form, Fixed, Single, Records, Expected, fileOf, formFrom}
 use Rattle.table_file.proofs.Kept.{file-length}
+use Rattle.table_file.proofs.FaultKinds.{countOf}
+use Rattle.table_file.proofs.Before.{TableAlike, file-alike}
+use Rattle.json_bytes.proofs.Laws.{either}
 use Rattle.found_marks.specs.Found.{countIn}
 use Rattle.found_marks.proofs.Laws.{and-false}
 use Rattle.gate_marks.specs.Gate.{expectedIn}
-use Rattle.gate_marks.specs.Work.{zeros, widthOf, roomFor, roomOf, roomStart, cellsIn, readOf, workAfter}
+use Rattle.gate_marks.specs.Work.{zeros, widthOf, roomFor, roomOf, roomStart, cellsIn, readOf, cellsBefore, workAfter}
 use Rattle.gate_marks.specs.Code.{roomIn, roomsIn, Starts}
 
 -- ---- cells that are 0
@@ -119,6 +122,18 @@ part-same : (d e : List ℕ) (from to : ℕ) → length d ≡ length e → take 
 unfolding partOf
 part-same d e from to p q = rw (p, q)
 
+part-most : (d : List ℕ) (from to : ℕ) → length (partOf d from to) ≤ to - from
+unfolding partOf
+part-most d from to =
+    either (λ (l : List ℕ). length l ≤ to - from) (leb from to && leb to (length d)) _ _ (omega (arith, length-take (to - from) (drop from d), min-le-left (to - from) (length (drop from d)))) (omega arith)
+
+-- two cells a field
+pub width-counted : (form : Form) → widthOf form ≡ 2 * countOf form
+unfolding widthOf
+width-counted (Fixed text) = refl
+width-counted (Single fields) = refl
+width-counted (Records fields) = refl
+
 module _ (expected : ℕ → Expected) where
   pub room-next : (k : ℕ) → roomStart expected (k + 1) ≡ roomStart expected k + roomOf (expected k .form)
   unfolding roomStart
@@ -133,36 +148,64 @@ module _ (expected : ℕ → Expected) where
   room-grows i (suc j) l =
       ⊎-elim (λ e. rw e (omega arith)) (λ h. omega (arith, room-grows i j (le-of-suc-le-suc h))) (eq-or-lt-of-le l)
 
-  pub cells-length : (k : ℕ) (f : File) → length (readOf (expected k) f .cells) ≡ roomOf (expected k .form)
-  unfolding readOf
-  cells-length k f = file-length (expected k) f (zeros (roomOf (expected k .form))) ∙ length-zeros (roomOf (expected k .form))
+  -- what a file is read over is never longer than its room, and just as long where the list is long enough
+  pub before-most : (cleared : Bool) (work : List ℕ) (k : ℕ) → length (cellsBefore cleared expected work k) ≤ roomOf (expected k .form)
+  unfolding cellsBefore cellsIn
+  before-most true work k = omega (arith, length-zeros (roomOf (expected k .form)))
+  before-most false work k = omega (arith, part-most work (roomStart expected k) (roomStart expected (suc k)), room-next k, ap (roomStart expected) (add-one k))
+
+  pub before-long : (cleared : Bool) (work : List ℕ) (k : ℕ) → roomStart expected (k + 1) ≤ length work → length (cellsBefore cleared expected work k) ≡ roomOf (expected k .form)
+  unfolding cellsBefore cellsIn
+  before-long true work k room = length-zeros (roomOf (expected k .form))
+  before-long false work k room =
+      rw (← add-one k, part-is work (roomStart expected k) (roomStart expected (k + 1)) (omega (arith, room-next k)) room)
+      (length-take-le (roomStart expected (k + 1) - roomStart expected k) (drop (roomStart expected k) work) (omega (arith, length-drop (roomStart expected k) work, room-next k)) ∙ omega (arith, room-next k))
 
   -- file k's cells written in their place
-  module _ (k : ℕ) (f : File) (work : List ℕ) where
-    pub work-length : length (workAfter expected k f work) ≡ length work
+  module _ (cleared : Bool) (k : ℕ) (f : File) (work : List ℕ) where
+    abbrev pub cellsNow : List ℕ
+    cellsNow = fileOf (expected k) f (cellsBefore cleared expected work k) .cells
+
+    now-long : length cellsNow ≡ length (cellsBefore cleared expected work k)
+    now-long = file-length (expected k) f (cellsBefore cleared expected work k)
+
+    pub work-length : length (workAfter cleared expected k f work) ≡ length work
     unfolding workAfter
-    work-length = written-length work (roomStart expected k) (readOf (expected k) f .cells)
+    work-length = written-length work (roomStart expected k) cellsNow
 
     -- another file's are as they were
-    pub cells-other : (j : ℕ) → (j ≡ k → ⊥) → cellsIn expected (workAfter expected k f work) j ≡ cellsIn expected work j
+    pub cells-other : (j : ℕ) → (j ≡ k → ⊥) → cellsIn expected (workAfter cleared expected k f work) j ≡ cellsIn expected work j
     unfolding workAfter cellsIn
     cells-other j n =
-        let v = readOf (expected k) f .cells in
+        let v = cellsNow in
         let at = roomStart expected k in
         part-same (written work at v) work (roomStart expected j) (roomStart expected (suc j)) (written-length work at v) (⊎-elim
         (λ l. written-part-before work at v (roomStart expected j) (roomStart expected (suc j) - roomStart expected j) (omega (arith, room-grows j (suc j) (omega arith), room-grows (suc j) k l)))
-        (λ l. written-part-behind work at v (roomStart expected j) (roomStart expected (suc j) - roomStart expected j) (omega (arith, cells-length k f, room-next k, ap (roomStart expected) (add-one k), room-grows (suc k) j l))) (apart j k n))
+        (λ l. written-part-behind work at v (roomStart expected j) (roomStart expected (suc j) - roomStart expected j) (omega (arith, now-long, before-most cleared work k, room-next k, ap (roomStart expected) (add-one k), room-grows (suc k) j l))) (apart j k n))
 
     -- and its own are there, where the list is long enough
-    pub cells-read : roomStart expected (k + 1) ≤ length work → cellsIn expected (workAfter expected k f work) k ≡ readOf (expected k) f .cells
+    pub cells-read : roomStart expected (k + 1) ≤ length work → cellsIn expected (workAfter cleared expected k f work) k ≡ cellsNow
     unfolding cellsIn workAfter
-    cells-read long = rw (← add-one k) (go (readOf (expected k) f .cells) (cells-length k f))
+    cells-read long = rw (← add-one k) (go cellsNow (now-long ∙ before-long cleared work k long))
       where
         go : (v : List ℕ) → length v ≡ roomOf (expected k .form) → partOf (written work (roomStart expected k) v) (roomStart expected k) (roomStart expected (k + 1)) ≡ v
         go v e =
             let size : roomStart expected (k + 1) - roomStart expected k ≡ length v = omega (arith, room-next k) in
             part-is (written work (roomStart expected k) v) (roomStart expected k) (roomStart expected (k + 1)) (omega (arith, room-next k)) (omega (arith, written-length work (roomStart expected k) v))
             ∙ rw size (written-part work (roomStart expected k) v (omega (arith, room-next k)))
+
+    -- read over other cells of that length, its mark and its records are the same, and so are the records' cells
+    read-alike : roomStart expected (k + 1) ≤ length work → TableAlike (2 * countOf (expected k .form)) (fileOf (expected k) f (cellsBefore cleared expected work k)) (readOf (expected k) f)
+    unfolding readOf
+    read-alike long =
+        file-alike (expected k) f (cellsBefore cleared expected work k) (zeros (roomOf (expected k .form))) (before-long cleared work k long ∙ sym (length-zeros (roomOf (expected k .form))))
+
+    pub read-same : roomStart expected (k + 1) ≤ length work → fileOf (expected k) f (cellsBefore cleared expected work k) .read ≡ readOf (expected k) f .read
+    read-same long = read-alike long .same-read
+
+    pub records-same : roomStart expected (k + 1) ≤ length work → (i : ℕ) → i < readOf (expected k) f .read .records * widthOf (expected k .form) → getD cellsNow i 0 ≡ getD (readOf (expected k) f .cells) i 0
+    records-same long i l =
+        read-alike long .same-cells .front i (rw (read-same long, ← width-counted (expected k .form)) l)
 
 -- ---- as the code adds them up, within a limit
 module _ (forms fields : List ℕ) where

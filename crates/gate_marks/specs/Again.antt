@@ -50,9 +50,16 @@ needed n count rule scope file = neededFrom n rule scope file (n + count) 0
 abbrev pub isNeeded : Gate → Scope → ℕ → Bool
 isNeeded g scope file = needed (g .files) (g .rules) (g .rule) scope file
 
+-- A rule is handed the cells of its tables' records alone, so that what stands behind them makes no difference. What a reason shows is
+-- looked up in the workspace afterwards, and for a reason alone the cells are 0 before.
+unfoldable pub isCleared : Scope → Bool
+isCleared Full = false
+isCleared (Change k) = false
+isCleared (Scope.Mark mark) = true
+
 -- what is left in the workspace
 unfoldable pub workJudged : Gate → Scope → (ℕ → File) → List ℕ → List ℕ
-workJudged g scope files work = workRead (g .expected) (isNeeded g scope) files (g .files) work
+workJudged g scope files work = workRead (isCleared scope) (g .expected) (isNeeded g scope) files (g .files) work
 
 -- ---- Where there is room to judge: a workspace for the cells, and lists of just as many marks. The files of a set are 32 at
 -- most.

@@ -4,7 +4,7 @@ use Prim.Native.Nat.{ℕ, zero, suc, _+_, _*_, _≤_, _<_}
 use mathlib.Core.Path.{_≡_}
 use mathlib.Core.Bool.{Bool, true, cond}
 use mathlib.Core.List.{List}
-use lib.ListN.{getD}
+use lib.ListN.{length, getD}
 use lib.Dec.{leb, eqb}
 use Rattle.parts.specs.Files.{File}
 use Rattle.table_rows.specs.Rows.{cellAt}
@@ -14,7 +14,7 @@ use Rattle.mark_numbers.specs.Marks.{Marks, markIn}
 use Rattle.rule_shape.specs.declared.Rule.{Rule}
 use Rattle.found_marks.specs.Found.{countIn}
 use Rattle.gate_marks.specs.declared.Scope.{Scope}
-use Rattle.gate_marks.specs.Work.{cellsIn, readOf}
+use Rattle.gate_marks.specs.Work.{zeros, widthOf, cellsIn, readOf}
 use Rattle.gate_marks.specs.Marks.{fileMark}
 use Rattle.gate_marks.specs.Again.{touched}
 
@@ -33,9 +33,13 @@ roomsIn forms fields (suc k) = roomsIn forms fields k + roomIn forms fields k
 pub record Starts (start : ℕ → ℕ) (n : ℕ) (starts : List ℕ) : Type 0 where
   pub at : (k : ℕ) → k ≤ n → getD starts k 0 ≡ start k
 
--- the needed ones of the first n files have been read: their cells, their own marks, their records
+-- cells before a file is read into them
+unfoldable pub startCells : Bool → List ℕ → List ℕ
+startCells cleared cells = cond cleared (zeros (length cells)) cells
+
+-- the needed ones of the first n files have been read: the cells of their records, their own marks, how many records they have
 pub record ReadTo (n : ℕ) (expected : ℕ → Expected) (needed : ℕ → Bool) (files : ℕ → File) (work : List ℕ) (own : Marks) (records : List ℕ) : Type 0 where
-  pub cell-part : (f : ℕ) → f < n → needed f ≡ true → cellsIn expected work f ≡ readOf (expected f) (files f) .cells
+  pub cells-at : (f : ℕ) → f < n → needed f ≡ true → (i : ℕ) → i < readOf (expected f) (files f) .read .records * widthOf (expected f .form) → getD (cellsIn expected work f) i 0 ≡ getD (readOf (expected f) (files f) .cells) i 0
   pub mark-at : (f : ℕ) → f < n → needed f ≡ true → markIn own f ≡ fileMark (expected f) (files f)
   pub records-at : (f : ℕ) → f < n → needed f ≡ true → getD records f 0 ≡ readOf (expected f) (files f) .read .records
 

@@ -44,12 +44,18 @@ cellsIn expected work k = partOf work (roomStart expected k) (roomStart expected
 unfoldable pub readOf : Expected → File → TableRead
 readOf e f = fileOf e f (zeros (roomOf (e .form)))
 
+-- what a file is read over: cells that are 0, or whatever stands in their place. Its mark, its records and their cells are the same over
+-- either (table_file's `file-alike`).
+unfoldable pub cellsBefore : Bool → (ℕ → Expected) → List ℕ → ℕ → List ℕ
+cellsBefore cleared expected work k = cond cleared (zeros (roomOf (expected k .form))) (cellsIn expected work k)
+
 -- the list with that file's cells in their place
-unfoldable pub workAfter : (ℕ → Expected) → ℕ → File → List ℕ → List ℕ
-workAfter expected k f work = written work (roomStart expected k) (readOf (expected k) f .cells)
+unfoldable pub workAfter : Bool → (ℕ → Expected) → ℕ → File → List ℕ → List ℕ
+workAfter cleared expected k f work =
+    written work (roomStart expected k) (fileOf (expected k) f (cellsBefore cleared expected work k) .cells)
 
 -- the list with the cells of each needed one of the first n files in their place, and all else as it was
-unfoldable pub workRead : (ℕ → Expected) → (ℕ → Bool) → (ℕ → File) → ℕ → List ℕ → List ℕ
-workRead expected needed files zero work = work
-workRead expected needed files (suc k) work =
-    cond (needed k) (workAfter expected k (files k) (workRead expected needed files k work)) (workRead expected needed files k work)
+unfoldable pub workRead : Bool → (ℕ → Expected) → (ℕ → Bool) → (ℕ → File) → ℕ → List ℕ → List ℕ
+workRead cleared expected needed files zero work = work
+workRead cleared expected needed files (suc k) work =
+    cond (needed k) (workAfter cleared expected k (files k) (workRead cleared expected needed files k work)) (workRead cleared expected needed files k work)

@@ -6,7 +6,7 @@ ghost use mathlib.Core.Path.{_≡_};
 ghost use mathlib.Core.Bool.{true, cond, _&&_};
 ghost use mathlib.Core.List.{[]};
 ghost use Prim.Native.Nat.{_+_, _-_, _*_, _/_, _≤_, _<_};
-ghost use lib.ListN.{length, set};
+ghost use lib.ListN.{length, set, take, drop};
 ghost use lib.Dec.{ltb, leb};
 ghost use Rattle.parts.specs.Files.{newFile};
 ghost use Rattle.standing.specs.Standing.{standing};
@@ -18,8 +18,8 @@ ghost use Rattle.found_marks.specs.Found.{countIn, tableIn, foundMark};
 ghost use Rattle.gate_marks.specs.Gate.{gateFrom, expectedIn, markReads};
 ghost use Rattle.gate_marks.specs.Work.{zeros, roomStart, cellsIn, workRead};
 ghost use Rattle.gate_marks.specs.Marks.{markRead};
-ghost use Rattle.gate_marks.specs.Again.{asked, touched, needed, newMarks, workJudged, canJudge, marksAfter, workAfterwards};
-ghost use Rattle.gate_marks.specs.Code.{roomIn, roomsIn, Starts, ReadTo, putMark};
+ghost use Rattle.gate_marks.specs.Again.{asked, touched, needed, newMarks, isCleared, workJudged, canJudge, marksAfter, workAfterwards};
+ghost use Rattle.gate_marks.specs.Code.{roomIn, roomsIn, Starts, startCells, ReadTo, putMark};
 use found_marks::cells_of;
 use found_marks::count_of;
 use found_marks::mark_at;
@@ -113,7 +113,28 @@ pub fn clear(cells: &mut [u32])
     }
 }
 
-// Reads file k into cells that are its own, whatever they held.
+// Reads file k into cells that are its own, over what they hold.
+fn read_over(
+    forms: &[u32],
+    fields: &[u32],
+    names: &[u8],
+    fixed: &[u8],
+    k: usize,
+    present: bool,
+    s: &[u8],
+    cells: &mut [u32],
+) -> FileRead
+    ensures { λ r. ⌜ r ≡ fileOf (expectedIn (now (forms .entry)) (now (fields .entry)) (now (names .entry)) (now (fixed .entry)) k) (newFile present (now (s .entry))) (now (cells .entry)) .read ⌝ }
+    ensures { λ _. ⌜ now (cells .exit) ≡ fileOf (expectedIn (now (forms .entry)) (now (fields .entry)) (now (names .entry)) (now (fixed .entry)) k) (newFile present (now (s .entry))) (now (cells .entry)) .cells ⌝ }
+{
+    let form = cell_at(forms, 2, k, 0);
+    let required = cell_at(forms, 2, k, 1) == 1;
+    let own = rows_after(fields, first_field(fields, k));
+    let count = field_count(fields, k);
+    read_file(form, required, present, s, fixed, own, names, count, cells)
+}
+
+// The same, whatever the cells held: they are made 0 before.
 pub fn read_own(
     forms: &[u32],
     fields: &[u32],
@@ -128,11 +149,28 @@ pub fn read_own(
     ensures { λ _. ⌜ now (cells .exit) ≡ fileOf (expectedIn (now (forms .entry)) (now (fields .entry)) (now (names .entry)) (now (fixed .entry)) k) (newFile present (now (s .entry))) (zeros (length (now (cells .entry)))) .cells ⌝ }
 {
     clear(cells);
-    let form = cell_at(forms, 2, k, 0);
-    let required = cell_at(forms, 2, k, 1) == 1;
-    let own = rows_after(fields, first_field(fields, k));
-    let count = field_count(fields, k);
-    read_file(form, required, present, s, fixed, own, names, count, cells)
+    read_over(forms, fields, names, fixed, k, present, s, cells)
+}
+
+// One or the other.
+fn read_in(
+    forms: &[u32],
+    fields: &[u32],
+    names: &[u8],
+    fixed: &[u8],
+    k: usize,
+    present: bool,
+    s: &[u8],
+    cleared: bool,
+    cells: &mut [u32],
+) -> FileRead
+    ensures { λ r. ⌜ r ≡ fileOf (expectedIn (now (forms .entry)) (now (fields .entry)) (now (names .entry)) (now (fixed .entry)) k) (newFile present (now (s .entry))) (startCells cleared (now (cells .entry))) .read ⌝ }
+    ensures { λ _. ⌜ now (cells .exit) ≡ fileOf (expectedIn (now (forms .entry)) (now (fields .entry)) (now (names .entry)) (now (fixed .entry)) k) (newFile present (now (s .entry))) (startCells cleared (now (cells .entry))) .cells ⌝ }
+{
+    if cleared {
+        return read_own(forms, fields, names, fixed, k, present, s, cells);
+    }
+    read_over(forms, fields, names, fixed, k, present, s, cells)
 }
 
 // The mark of a file that was read.
@@ -160,6 +198,7 @@ fn read_one<'a>(
     k: usize,
     from: usize,
     to: usize,
+    cleared: bool,
     work: &mut [u32],
     kinds: &mut [u32],
     places: &mut [usize],
@@ -167,13 +206,13 @@ fn read_one<'a>(
     records: &mut [usize],
 )
     requires { ⌜ (from ≤ to) × (to ≤ length (now work)) ⌝ }
-    ensures { λ _. ⌜ now (work .exit) ≡ written (now (work .entry)) from (fileOf (expectedIn (now (forms .entry)) (now (fields .entry)) (now (names .entry)) (now (fixed .entry)) k) (standing (now (a .entry)) (now (b .entry)) (now (c .entry)) (now (stand .entry)) k) (zeros (to - from)) .cells) ⌝ }
-    ensures { λ _. ⌜ marksIn (now (kinds .exit)) (now (places .exit)) (now (companions .exit)) ≡ withMark (marksIn (now (kinds .entry)) (now (places .entry)) (now (companions .entry))) k (markRead (fileOf (expectedIn (now (forms .entry)) (now (fields .entry)) (now (names .entry)) (now (fixed .entry)) k) (standing (now (a .entry)) (now (b .entry)) (now (c .entry)) (now (stand .entry)) k) (zeros (to - from)) .read)) ⌝ }
-    ensures { λ _. ⌜ now (records .exit) ≡ set (now (records .entry)) k (fileOf (expectedIn (now (forms .entry)) (now (fields .entry)) (now (names .entry)) (now (fixed .entry)) k) (standing (now (a .entry)) (now (b .entry)) (now (c .entry)) (now (stand .entry)) k) (zeros (to - from)) .read .records) ⌝ }
+    ensures { λ _. ⌜ now (work .exit) ≡ written (now (work .entry)) from (fileOf (expectedIn (now (forms .entry)) (now (fields .entry)) (now (names .entry)) (now (fixed .entry)) k) (standing (now (a .entry)) (now (b .entry)) (now (c .entry)) (now (stand .entry)) k) (startCells cleared (take (to - from) (drop from (now (work .entry))))) .cells) ⌝ }
+    ensures { λ _. ⌜ marksIn (now (kinds .exit)) (now (places .exit)) (now (companions .exit)) ≡ withMark (marksIn (now (kinds .entry)) (now (places .entry)) (now (companions .entry))) k (markRead (fileOf (expectedIn (now (forms .entry)) (now (fields .entry)) (now (names .entry)) (now (fixed .entry)) k) (standing (now (a .entry)) (now (b .entry)) (now (c .entry)) (now (stand .entry)) k) (startCells cleared (take (to - from) (drop from (now (work .entry))))) .read)) ⌝ }
+    ensures { λ _. ⌜ now (records .exit) ≡ set (now (records .entry)) k (fileOf (expectedIn (now (forms .entry)) (now (fields .entry)) (now (names .entry)) (now (fixed .entry)) k) (standing (now (a .entry)) (now (b .entry)) (now (c .entry)) (now (stand .entry)) k) (startCells cleared (take (to - from) (drop from (now (work .entry))))) .read .records) ⌝ }
 {
     let there = is_there(stand, k);
     let s = part_standing(a, b, c, stand, k);
-    let read = read_own(
+    let read = read_in(
         forms,
         fields,
         names,
@@ -181,6 +220,7 @@ fn read_one<'a>(
         k,
         there,
         s,
+        cleared,
         &mut work[from..to],
     );
     put_mark(k, mark_read(read), kinds, places, companions);
@@ -261,6 +301,17 @@ pub fn is_read(n: usize, rules: &[u32], scope: Scope, file: usize) -> bool
     is_needed(n, rules, scope, file)
 }
 
+// Whether the cells of a file are made 0 before it is read.
+fn is_cleared(scope: Scope) -> bool
+    ensures { λ r. ⌜ r ≡ isCleared scope ⌝ }
+{
+    match scope {
+        Scope::Full => false,
+        Scope::Change { file: _ } => false,
+        Scope::Mark { mark: _ } => true,
+    }
+}
+
 // Reads each file that is needed, once.
 fn read_needed<'a>(
     a: &'a [u8],
@@ -283,9 +334,10 @@ fn read_needed<'a>(
     requires { ⌜ (length (now forms) / 2 ≤ 32) × (roomStart (expectedIn (now forms) (now fields) (now names) (now fixed)) (length (now forms) / 2) ≤ length (now work)) × (length (now starts) ≡ 33) × (haveLength 32 (marksIn (now kinds) (now places) (now companions)) ≡ true) × (length (now records) ≡ 32) ⌝ }
     requires { ⌜ Starts (roomStart (expectedIn (now forms) (now fields) (now names) (now fixed))) (length (now forms) / 2) (now starts) ⌝ }
     ensures { λ _. ⌜ ReadTo (length (now (forms .entry)) / 2) (expectedIn (now (forms .entry)) (now (fields .entry)) (now (names .entry)) (now (fixed .entry))) (needed (length (now (forms .entry)) / 2) (length (now (rules .entry)) / 9) (ruleFrom (now (rules .entry))) scope) (standing (now (a .entry)) (now (b .entry)) (now (c .entry)) (now (stand .entry))) (now (work .exit)) (marksIn (now (kinds .exit)) (now (places .exit)) (now (companions .exit))) (now (records .exit)) ⌝ }
-    ensures { λ _. ⌜ now (work .exit) ≡ workRead (expectedIn (now (forms .entry)) (now (fields .entry)) (now (names .entry)) (now (fixed .entry))) (needed (length (now (forms .entry)) / 2) (length (now (rules .entry)) / 9) (ruleFrom (now (rules .entry))) scope) (standing (now (a .entry)) (now (b .entry)) (now (c .entry)) (now (stand .entry))) (length (now (forms .entry)) / 2) (now (work .entry)) ⌝ }
+    ensures { λ _. ⌜ now (work .exit) ≡ workRead (isCleared scope) (expectedIn (now (forms .entry)) (now (fields .entry)) (now (names .entry)) (now (fixed .entry))) (needed (length (now (forms .entry)) / 2) (length (now (rules .entry)) / 9) (ruleFrom (now (rules .entry))) scope) (standing (now (a .entry)) (now (b .entry)) (now (c .entry)) (now (stand .entry))) (length (now (forms .entry)) / 2) (now (work .entry)) ⌝ }
 {
     let n = forms.len() / 2;
+    let cleared = is_cleared(scope);
     let mut k = 0;
     while k < n {
         if is_needed(n, rules, scope, k) {
@@ -303,6 +355,7 @@ fn read_needed<'a>(
                 k,
                 from,
                 to,
+                cleared,
                 work,
                 kinds,
                 places,

@@ -236,7 +236,7 @@ module _ (g : Gate) (files : ℕ → File) (m : ℕ) (l : g .files ≤ m) (e : m
 pub others-unread : (g : Gate) (files : ℕ → File) (m : ℕ) (work : List ℕ) (k : ℕ) → readsFile g m k ≡ false → cellsIn (g .expected) (workTold g files m work) k ≡ cellsIn (g .expected) work k
 unfolding workTold workJudged
 others-unread g files m work k none =
-    either (λ (w : List ℕ). cellsIn (g .expected) w k ≡ cellsIn (g .expected) work k) (ltb m (marksOf g) && canTell g (length work)) _ _ (cells-kept (g .expected) (isNeeded g (Scope.Mark m)) files work (g .files) k (unneeded (isNeeded g (Scope.Mark m) k) refl)) refl
+    either (λ (w : List ℕ). cellsIn (g .expected) w k ≡ cellsIn (g .expected) work k) (ltb m (marksOf g) && canTell g (length work)) _ _ (cells-kept _ (g .expected) (isNeeded g (Scope.Mark m)) files work (g .files) k (unneeded (isNeeded g (Scope.Mark m) k) refl)) refl
   where
     unneeded : (t : Bool) → isNeeded g (Scope.Mark m) k ≡ t → t ≡ false
     unneeded true e = absurd (true≢false (sym (asked-only g m k e) ∙ none))

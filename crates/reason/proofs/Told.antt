@@ -26,7 +26,7 @@ use Rattle.gate_marks.specs.declared.Scope.{Scope}
 use Rattle.gate_marks.specs.Gate.{Gate, marksOf, ruleOfMark, readsFile, expectedIn, gateFrom}
 use Rattle.gate_marks.specs.Work.{roomStart, cellsIn, readOf}
 use Rattle.gate_marks.specs.Marks.{fileMark, tableOf, ruleMark, ruleMarkAt, markAt}
-use Rattle.gate_marks.specs.Again.{newMarks, isNeeded, workJudged, workspaceOf, hasRoom, hasLists, canJudge, marksAfter, workAfterwards}
+use Rattle.gate_marks.specs.Again.{newMarks, isNeeded, isCleared, workJudged, workspaceOf, hasRoom, hasLists, canJudge, marksAfter, workAfterwards}
 use Rattle.gate_marks.proofs.Rooms.{width-is, cells-by}
 use Rattle.gate_marks.proofs.Laws.{first-reads, second-reads, mark-read, asked-needed, asked-mark, asked-file, cells-needed}
 use Rattle.reason.specs.Reason.{shownOf, brokenBy, isReadable, lowestOf, unreadOf, toldOf, reasonAt, canTell, reasonIn, workTold}
@@ -117,7 +117,7 @@ module _ (forms fields names fixed rules values texts : List ℕ) (m : ℕ) (off
         unread-same n _ _ rule (λ h. kind-is (firstFileOf rule) h (first-reads n (ruleFrom rules) m l)) (λ h. kind-is (secondFileOf rule) h (second-reads n (ruleFrom rules) m l))
 
     cells-are : (k : ℕ) → k < n → readsFile g m k ≡ true → cellsIn (expectedIn forms fields [] []) (workJudged g (Scope.Mark m) files work) k ≡ readOf (expectedIn forms fields names fixed k) (files k) .cells
-    unfolding gateFrom workJudged marksOf
+    unfolding gateFrom workJudged isCleared marksOf
     cells-are k l e =
         cells-by forms fields names fixed (workJudged g (Scope.Mark m) files work) k ∙ cells-needed (expectedIn forms fields names fixed) (isNeeded g (Scope.Mark m)) files work n k room l (asked-needed g m few k e)
 

@@ -1,3 +1,4 @@
 pub mod Laws
 pub mod Opens
 pub mod Companion
+pub mod Alike

@@ -13,14 +13,15 @@ use lib.Seq.{getD-drop, drop-drop}
 use lib.Dec.{leb}
 use Rattle.parts.specs.Files.{File}
 use Rattle.table_rows.specs.Rows.{Field}
-use Rattle.table_file.specs.File.{Form, Fixed, Single, Records, Expected}
+use Rattle.table_file.specs.File.{Form, Fixed, Single, Records, Expected, fileOf}
+use Rattle.table_file.proofs.Kept.{file-length}
 use Rattle.bundle_bytes.specs.Pieces.{written}
 use Rattle.bundle_bytes.proofs.Laws.{written-fits, written-length, written-part, written-part-behind}
 use Rattle.entries.specs.declared.Entry.{Entry}
 use Rattle.entries.specs.Flat.{entryNumbers, flatOf, entryIn, entriesIn}
 use Rattle.entries.proofs.Flat.{flat-long, flat-join, written-on}
-use Rattle.gate_marks.specs.Work.{roomFor, roomOf, roomStart, readOf, workAfter, workRead}
-use Rattle.gate_marks.proofs.Rooms.{room-next, room-grows, work-length}
+use Rattle.gate_marks.specs.Work.{roomFor, roomOf, roomStart, readOf, cellsBefore, workAfter, workRead}
+use Rattle.gate_marks.proofs.Rooms.{room-next, room-grows, before-most}
 use Rattle.set_entries.specs.Entries.{keyField, fileEntries, entriesUpTo}
 use Rattle.set_entries.specs.Work.{fileListed, listedUpTo}
 use Rattle.set_entries.proofs.Laws.{cells-long, few-entries, listed-long, entries-skip, entries-more}
@@ -111,8 +112,8 @@ module _ (expected : ℕ → Expected) (needed : ℕ → Bool) (files : ℕ → 
       (stands-on w base (flatOf (es n)) (flatOf (fileEntries k e f)) (omega (arith, entries-few n, few-entries k e f, long, more, l, written-length (ws n) 0 (readOf e f .cells), listed-length n)) before))
 
 -- ---- reading files into their places leaves what is behind them
-module _ (expected : ℕ → Expected) (needed : ℕ → Bool) (files : ℕ → File) (base : ℕ) (v work : List ℕ) where
-  pub stand-read : (n : ℕ) → roomStart expected n ≤ base → Stands work base v → Stands (workRead expected needed files n work) base v
+module _ (cleared : Bool) (expected : ℕ → Expected) (needed : ℕ → Bool) (files : ℕ → File) (base : ℕ) (v work : List ℕ) where
+  pub stand-read : (n : ℕ) → roomStart expected n ≤ base → Stands work base v → Stands (workRead cleared expected needed files n work) base v
   unfolding workRead workAfter
   stand-read zero l s = s
   stand-read (suc n) l s = go (needed n) (stand-read n (omega (arith, next)) s)
@@ -120,8 +121,14 @@ module _ (expected : ℕ → Expected) (needed : ℕ → Bool) (files : ℕ → 
       next : roomStart expected (suc n) ≡ roomStart expected n + roomOf (expected n .form)
       next = rw (← add-one n) (room-next expected n)
 
-      go : (t : Bool) → Stands (workRead expected needed files n work) base v → Stands (cond t (written (workRead expected needed files n work) (roomStart expected n) (readOf (expected n) (files n) .cells)) (workRead expected needed files n work)) base v
-      go true so-far = stands-behind (workRead expected needed files n work) base v (roomStart expected n) (readOf (expected n) (files n) .cells) (omega (arith, next, cells-long (expected n) (files n))) so-far
+      now-read : List ℕ
+      now-read = workRead cleared expected needed files n work
+
+      cells-most : length (fileOf (expected n) (files n) (cellsBefore cleared expected now-read n) .cells) ≤ roomOf (expected n .form)
+      cells-most = rw (file-length (expected n) (files n) (cellsBefore cleared expected now-read n)) (before-most expected cleared now-read n)
+
+      go : (t : Bool) → Stands now-read base v → Stands (cond t (written now-read (roomStart expected n) (fileOf (expected n) (files n) (cellsBefore cleared expected now-read n) .cells)) now-read) base v
+      go true so-far = stands-behind now-read base v (roomStart expected n) (fileOf (expected n) (files n) (cellsBefore cleared expected now-read n) .cells) (omega (arith, next, cells-most)) so-far
       go false so-far = so-far
 
 -- ---- they read back as the entries

@@ -1,5 +1,5 @@
 -- What a file's reading gives does not hang on what the lent cells held before: its mark, the number of its records and the cells of these are
--- the same over any cells that have room. Assumes nothing.
+-- the same over any cells of one length. Assumes nothing.
 use Prim.Native.Nat.{ℕ, zero, suc, _+_, _*_, _≤_, _<_}
 use mathlib.Core.Path.{_≡_, refl, sym, ap, _∙_}
 use mathlib.Core.Bool.{Bool, true, false, cond}
@@ -21,10 +21,10 @@ use Rattle.table_value.specs.Value.{notObjectAt}
 use Rattle.table_name.specs.Name.{firstIn, nextAfter}
 use Rattle.table_name.specs.declared.Next.{Next}
 use Rattle.table_name.specs.declared.Next.the-variants.{More, Ends, Neither}
-use Rattle.table_record.specs.Record.{Filled, cellsFilled, recordAt}
+use Rattle.table_record.specs.Record.{Filled, cellsFilled, recordHasRoom, recordAt}
 use Rattle.table_record.proofs.Bounds.{NextIn, next-in, first-in, record-in}
 use Rattle.table_record.proofs.Laws.{room-is}
-use Rattle.table_record.proofs.Before.{Alike, ReadAlike, record-alike}
+use Rattle.table_record.proofs.Before.{Alike, ReadAlike, record-alike, record-unread, room-alike}
 use Rattle.table_file.specs.declared.FileRead.{FileRead}
 use Rattle.table_file.specs.Table.{
   fault,
@@ -44,7 +44,7 @@ use Rattle.table_file.specs.Table.{
 use Rattle.table_file.specs.File.{Form, Fixed, Single, Records, Expected, omitted, fixedRead, readAs, fileOf}
 use Rattle.table_file.proofs.Laws.{element-in}
 use Rattle.table_file.proofs.Elements.{Below, below-other}
-use Rattle.table_file.proofs.FaultKinds.{Room, room-at, FormRoom, countOf}
+use Rattle.table_file.proofs.FaultKinds.{countOf}
 
 fewer-alike : {m : ℕ} {a b : List ℕ} → Alike m a b → (n : ℕ) → n ≤ m → Alike n a b
 fewer-alike h n l = record { same-length = h .same-length; front = λ i k. h .front i (omega arith) }
@@ -91,22 +91,27 @@ upto-other : (width r : ℕ) (o : Reading) {a b : List ℕ} → Below 4096 o →
 upto-other width r (Whole end) l long = absurd (omega (arith, l))
 upto-other width r (Fault kind place) l long = none-alike _ _ long
 
-element-length : (fields : List Field) (s : List ℕ) (at : ℕ) (cells : List ℕ) (r : ℕ) → at ≤ length s → length (elementAt fields s at cells r .cells) ≡ length cells
-unfolding elementAt
-element-length fields s at cells r l =
-    either (λ (f : Filled). length (f .cells) ≡ length cells) (eqb (byteAt s at) 123) _ _
-    (either (λ (f : Filled). length (f .cells) ≡ length cells) (ltb r 4096) _ _ (record-in fields s (r * (2 * length fields)) cells at l .kept .length-same) refl)
-    refl
+module _ (fields : List Field) (s : List ℕ) where
+  -- a record, or where it has no room the fault that says so
+  object-alike : (a b : List ℕ) (r : ℕ) → Alike (r * (2 * length fields)) a b → (at : ℕ) → at ≤ length s → ElementAlike (2 * length fields) r (recordAt fields s at a (r * (2 * length fields))) (recordAt fields s at b (r * (2 * length fields)))
+  object-alike a b r h at l = go (recordHasRoom s a base (length fields)) refl where
+    base : ℕ
+    base = r * (2 * length fields)
 
-module _ (fields : List Field) (s cells : List ℕ) (all : Room 4096 fields s cells) where
-  element-alike : (a b : List ℕ) (r : ℕ) → length a ≡ length cells → Alike (r * (2 * length fields)) a b → (at : ℕ) → at ≤ length s → ElementAlike (2 * length fields) r (elementAt fields s at a r) (elementAt fields s at b r)
+    go : (has : Bool) → recordHasRoom s a base (length fields) ≡ has → ElementAlike (2 * length fields) r (recordAt fields s at a base) (recordAt fields s at b base)
+    go true e =
+        let read = record-alike fields s base a b h e at l in
+        record { same-outcome = read .same-outcome; same-cells = upto-record (2 * length fields) r (recordAt fields s at a base .outcome) (read .same-cells) }
+    go false e =
+        rw (record-unread fields s base a e at, record-unread fields s base b (sym (room-alike fields s base a b (h .same-length)) ∙ e) at)
+        (record { same-outcome = refl; same-cells = none-alike a b (h .same-length) })
+
+  element-alike : (a b : List ℕ) (r : ℕ) → Alike (r * (2 * length fields)) a b → (at : ℕ) → at ≤ length s → ElementAlike (2 * length fields) r (elementAt fields s at a r) (elementAt fields s at b r)
   unfolding elementAt
-  element-alike a b r long h at l =
+  element-alike a b r h at l =
       by-tests (ElementAlike (2 * length fields) r) (eqb (byteAt s at) 123) _ _ _ _
       (λ _. by-tests (ElementAlike (2 * length fields) r) (ltb r 4096) _ _ _ _
-      (λ e.
-      let read = record-alike fields s (r * (2 * length fields)) a b h (room-at fields s cells false all a r long (ltb-true r 4096 e)) at l in
-      record { same-outcome = read .same-outcome; same-cells = upto-record (2 * length fields) r (recordAt fields s at a (r * (2 * length fields)) .outcome) (read .same-cells) })
+      (λ _. object-alike a b r h at l)
       (λ _. record { same-outcome = refl; same-cells = none-alike a b (h .same-length) }))
       (λ _. record { same-outcome = refl; same-cells = upto-other (2 * length fields) r (notObjectAt s at) (below-other s at 4096) (h .same-length) })
 
@@ -136,66 +141,66 @@ module _ (fields : List Field) (s cells : List ℕ) (all : Room 4096 fields s ce
   after-alike n a b r at (Whole end) q e l h rest = rw (← e) (next-alike n a b r end h (rest h) (nextAfter s end 93) (next-in s end (l .1) 93 (omega arith)))
   after-alike n a b r at (Fault kind place) q e l h rest = rw (← e) (empty-alike (2 * length fields) a b (h .same-length) (fault kind place (r + 1)) refl)
 
-  elements-alike : (n : ℕ) (a b : List ℕ) (r : ℕ) → length a ≡ length cells → Alike (r * (2 * length fields)) a b → (at : ℕ) → at ≤ length s → TableAlike (2 * length fields) (elementsFrom n fields s at a r) (elementsFrom n fields s at b r)
+  elements-alike : (n : ℕ) (a b : List ℕ) (r : ℕ) → Alike (r * (2 * length fields)) a b → (at : ℕ) → at ≤ length s → TableAlike (2 * length fields) (elementsFrom n fields s at a r) (elementsFrom n fields s at b r)
   unfolding elementsFrom
-  elements-alike zero a b r long h at l = empty-alike (2 * length fields) a b (h .same-length) (fault 11 at 0) refl
-  elements-alike (suc n) a b r long h at l =
+  elements-alike zero a b r h at l = empty-alike (2 * length fields) a b (h .same-length) (fault 11 at 0) refl
+  elements-alike (suc n) a b r h at l =
       let p = elementAt fields s at a r in
       let q = elementAt fields s at b r in
-      let element = element-alike a b r long h at l in
+      let element = element-alike a b r h at l in
       after-alike n (p .cells) (q .cells) r at (p .outcome) (q .outcome) (element .same-outcome) (element-in fields s at a r l) (element .same-cells)
-      (λ more next m. elements-alike n (p .cells) (q .cells) (r + 1) (element-length fields s at a r l ∙ long) more next m)
+      (λ more next m. elements-alike n (p .cells) (q .cells) (r + 1) more next m)
 
-  listed-alike : (b : List ℕ) → length cells ≡ length b → (at : ℕ) (x : Next) → NextIn s at x → TableAlike (2 * length fields) (elementsOf fields s cells x) (elementsOf fields s b x)
+  listed-alike : (a b : List ℕ) → length a ≡ length b → (at : ℕ) (x : Next) → NextIn s at x → TableAlike (2 * length fields) (elementsOf fields s a x) (elementsOf fields s b x)
   unfolding elementsOf
-  listed-alike b long at (More next) l =
-      elements-alike (length s) cells b 0 refl (rw (zero-mul (2 * length fields)) (none-alike cells b long)) next (l .1)
-  listed-alike b long at (Ends last) l =
-      end-alike (2 * length fields) s (last + 1) 0 cells b (rw (zero-mul (2 * length fields)) (none-alike cells b long))
-  listed-alike b long at (Neither place) l = empty-alike (2 * length fields) cells b long (fault 11 place 0) refl
+  listed-alike a b long at (More next) l =
+      elements-alike (length s) a b 0 (rw (zero-mul (2 * length fields)) (none-alike a b long)) next (l .1)
+  listed-alike a b long at (Ends last) l =
+      end-alike (2 * length fields) s (last + 1) 0 a b (rw (zero-mul (2 * length fields)) (none-alike a b long))
+  listed-alike a b long at (Neither place) l = empty-alike (2 * length fields) a b long (fault 11 place 0) refl
 
 -- ---- A value that is read whole is the table's one record; where no object stands there is none
 module _ (fields : List Field) (s : List ℕ) where
-  one-alike : (f g : Filled) → ReadAlike (0 + 2 * length fields) f g → TableAlike (2 * length fields) (singleOf s f) (singleOf s g)
+  one-alike : (f g : Filled) → ElementAlike (2 * length fields) 0 f g → TableAlike (2 * length fields) (singleOf s f) (singleOf s g)
   unfolding singleOf singleRead
-  one-alike f g h = go (f .outcome) (g .outcome) (h .same-outcome)
+  one-alike f g h = go (f .outcome) (g .outcome) (h .same-outcome) (h .same-cells)
     where
-      go : (o q : Reading) → o ≡ q → TableAlike (2 * length fields) (tableRead (f .cells) (singleRead s o)) (tableRead (g .cells) (singleRead s q))
-      go (Whole end) q e =
-          rw (← e) (end-alike (2 * length fields) s end 1 (f .cells) (g .cells) (fewer-alike (h .same-cells) (1 * (2 * length fields)) (omega arith)))
-      go (Fault kind place) q e = rw (← e) (empty-alike (2 * length fields) (f .cells) (g .cells) (h .same-cells .same-length) (fault kind place 1) refl)
+      go : (o q : Reading) → o ≡ q → Alike (Upto (2 * length fields) 0 o) (f .cells) (g .cells) → TableAlike (2 * length fields) (tableRead (f .cells) (singleRead s o)) (tableRead (g .cells) (singleRead s q))
+      go (Whole end) q e k =
+          rw (← e) (end-alike (2 * length fields) s end 1 (f .cells) (g .cells) (fewer-alike k (1 * (2 * length fields)) (omega arith)))
+      go (Fault kind place) q e k = rw (← e) (empty-alike (2 * length fields) (f .cells) (g .cells) (k .same-length) (fault kind place 1) refl)
 
   none-read : (a b : List ℕ) → length a ≡ length b → (o : Reading) → Below 4096 o → TableAlike (2 * length fields) (singleOf s (cellsFilled a o)) (singleOf s (cellsFilled b o))
   unfolding singleOf singleRead
   none-read a b long (Whole end) l = absurd (omega (arith, l))
   none-read a b long (Fault kind place) l = empty-alike (2 * length fields) a b long (fault kind place 1) refl
 
-  single-alike : (a b : List ℕ) → length a ≡ length b → Room 1 fields s a → (at : ℕ) → at ≤ length s → TableAlike (2 * length fields) (singleAt fields s a at) (singleAt fields s b at)
+  single-alike : (a b : List ℕ) → length a ≡ length b → (at : ℕ) → at ≤ length s → TableAlike (2 * length fields) (singleAt fields s a at) (singleAt fields s b at)
   unfolding singleAt
-  single-alike a b long room at l =
+  single-alike a b long at l =
       by-tests (TableAlike (2 * length fields)) (eqb (byteAt s at) 123) _ _ _ _
-      (λ _. one-alike _ _ (record-alike fields s 0 a b (none-alike a b long) (room-is s a 0 (length fields) (room .small) (room .few) (omega (arith, room .room))) at l))
+      (λ _. one-alike _ _ (rw (zero-mul (2 * length fields)) at (object-alike fields s a b 0 (rw (zero-mul (2 * length fields)) (none-alike a b long)) at l)))
       (λ _. none-read a b long (notObjectAt s at) (below-other s at 4096))
 
-  array-alike : (a b : List ℕ) → length a ≡ length b → Room 4096 fields s a → (at : ℕ) → at ≤ length s → TableAlike (2 * length fields) (arrayAt fields s a at) (arrayAt fields s b at)
+  array-alike : (a b : List ℕ) → length a ≡ length b → (at : ℕ) → at ≤ length s → TableAlike (2 * length fields) (arrayAt fields s a at) (arrayAt fields s b at)
   unfolding arrayAt
-  array-alike a b long room at l =
+  array-alike a b long at l =
       by-tests (TableAlike (2 * length fields)) (eqb (byteAt s at) 91) _ _ _ _
-      (λ _. listed-alike fields s a room b long at (firstIn s at 93) (first-in s at 93 (omega arith)))
+      (λ _. listed-alike fields s a b long at (firstIn s at 93) (first-in s at 93 (omega arith)))
       (λ _. none-read a b long (notObjectAt s at) (below-other s at 4096))
 
 -- ---- A file, by its form
-form-alike : (form : Form) (s a b : List ℕ) → length a ≡ length b → FormRoom form s a → TableAlike (2 * countOf form) (readAs form s a) (readAs form s b)
+form-alike : (form : Form) (s a b : List ℕ) → length a ≡ length b → TableAlike (2 * countOf form) (readAs form s a) (readAs form s b)
 unfolding readAs readTable fixedRead
-form-alike (Fixed text) s a b long room =
+form-alike (Fixed text) s a b long =
     either (λ (read : FileRead). TableAlike 0 (tableRead a read) (tableRead b read)) (sameList s text) _ _
     (empty-alike 0 a b long (fileHolds 0) refl) (empty-alike 0 a b long (fault 22 0 0) refl)
-form-alike (Single fields) s a b long room = single-alike fields s a b long room (spacesEnd s 0) (spaces-within s 0 (omega arith) .1)
-form-alike (Records fields) s a b long room = array-alike fields s a b long room (spacesEnd s 0) (spaces-within s 0 (omega arith) .1)
+form-alike (Single fields) s a b long = single-alike fields s a b long (spacesEnd s 0) (spaces-within s 0 (omega arith) .1)
+form-alike (Records fields) s a b long = array-alike fields s a b long (spacesEnd s 0) (spaces-within s 0 (omega arith) .1)
 
-pub file-alike : (e : Expected) (f : File) (a b : List ℕ) → length a ≡ length b → FormRoom (e .form) (bytesOf f) a → TableAlike (2 * countOf (e .form)) (fileOf e f a) (fileOf e f b)
-unfolding fileOf omitted bytesOf
-file-alike e Left a b long room =
+pub file-alike : (e : Expected) (f : File) (a b : List ℕ) → length a ≡ length b → TableAlike (2 * countOf (e .form)) (fileOf e f a) (fileOf e f b)
+unfolding fileOf omitted
+file-alike e Left a b long =
     either (λ (read : FileRead). TableAlike (2 * countOf (e .form)) (tableRead a read) (tableRead b read)) (e .required) _ _
     (empty-alike (2 * countOf (e .form)) a b long (fault 21 0 0) refl) (empty-alike (2 * countOf (e .form)) a b long (fileHolds 0) refl)
-file-alike e (Given s) a b long room = form-alike (e .form) s a b long room
+file-alike e (Given s) a b long = form-alike (e .form) s a b long

@@ -6,3 +6,4 @@ pub mod FaultKinds
 pub mod Many
 pub mod Laws
 pub mod Before
+pub mod Behind

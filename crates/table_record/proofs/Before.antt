@@ -180,7 +180,7 @@ module _ (fields : List Field) (s : List ℕ) (base : ℕ) where
   alike-members a b h room at l (Ends last) e = alike-closed h room last
   alike-members a b h room at l (Neither place) e = alike-with h room (Fault 11 place)
 
-  room-alike : (a b : List ℕ) → length a ≡ length b → recordHasRoom s a base (length fields) ≡ recordHasRoom s b base (length fields)
+  pub room-alike : (a b : List ℕ) → length a ≡ length b → recordHasRoom s a base (length fields) ≡ recordHasRoom s b base (length fields)
   unfolding recordHasRoom
   room-alike a b long = rw long
 
@@ -193,3 +193,8 @@ module _ (fields : List Field) (s : List ℕ) (base : ℕ) where
       rw (has, sym (room-alike a b (h .same-length)) ∙ has)
       (alike-members (cleared a base (2 * length fields)) (cleared b base (2 * length fields)) clear
       (omega (arith, kept-cleared base (2 * length fields) a (2 * length fields) (omega arith) .length-same)) at l (firstIn s at 125) (first-in s at 125 (omega arith)))
+
+  -- one that has no room is not read at all
+  pub record-unread : (a : List ℕ) → recordHasRoom s a base (length fields) ≡ false → (at : ℕ) → recordAt fields s at a base ≡ cellsFilled a (Fault 99 at)
+  unfolding recordAt
+  record-unread a none at = rw none

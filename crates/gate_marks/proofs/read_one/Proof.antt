@@ -15,20 +15,20 @@ is-there-requires c κs = search needs
 part-standing-requires : tie.Need-part-standing-requires
 part-standing-requires c κs = search needs
 
-mul-read-own : tie.Need-mul-read-own
-mul-read-own c = search needs
+mul-read-in : tie.Need-mul-read-in
+mul-read-in c = search needs
 
-sub-read-own : tie.Need-sub-read-own
-sub-read-own c = search needs
+sub-read-in : tie.Need-sub-read-in
+sub-read-in c = search needs
 
-part-read-own-start : tie.Need-part-read-own-start
-part-read-own-start c = search needs
+part-read-in-start : tie.Need-part-read-in-start
+part-read-in-start c = search needs
 
-part-read-own-end : tie.Need-part-read-own-end
-part-read-own-end c = search needs
+part-read-in-end : tie.Need-part-read-in-end
+part-read-in-end c = search needs
 
-read-own-requires : tie.Need-read-own-requires
-read-own-requires c κs = search needs
+read-in-requires : tie.Need-read-in-requires
+read-in-requires c κs = search needs
 
 mark-read-requires : tie.Need-mark-read-requires
 mark-read-requires c κs = search needs
@@ -57,7 +57,7 @@ same-length-5 c = search needs
 returns : tie.Need-returns
 returns c =
     let a = c .before .before .before .before .before .before .before .before .before .before .before .before .before .before .before .before .before .before .before .before .before .before .before .before .before .before .before .before .before .before .before .before .before .before .args in
-    one-read _ _ _ _ (c .before .before .before .before .before .before .before .before .before .before .before .before .before .before .before .before .before .before .before .before .is-there .ensures ∙ there-present _ _ _ _ _) (c .before .before .before .before .before .before .before .before .before .before .before .before .before .before .before .before .before .before .before .part-standing .ensures) _ _ _ (c .before .before .before .before .before .before .before .before .before .before .before .before .before .before .before .before .before .before .before .before .before .before .before .before .before .before .before .before .before .before .before .before .before .before .pre .0) (c .before .before .before .before .before .before .before .before .before .before .before .before .before .before .before .before .before .before .before .before .before .before .before .before .before .before .before .before .before .before .before .before .before .before .pre .1) _ _ (c .before .before .before .before .before .before .before .before .before .before .before .before .before .before .before .before .before .read-own .ensures .0) (c .before .before .before .before .before .before .before .before .before .before .before .before .before .before .before .before .before .read-own .ensures .1) (a .k) (marksIn (now (a .kinds)) (now (a .places)) (now (a .companions))) (now (a .records)) (c .before .before .before .before .before .before .before .before .before .before .before .before .before .before .mark-read .ensures) (c .before .before .before .before .before .before .before .before .before .before .put-mark .ensures) (c .before .before .put-number .ensures)
+    one-read _ _ _ _ (c .before .before .before .before .before .before .before .before .before .before .before .before .before .before .before .before .before .before .before .before .is-there .ensures ∙ there-present _ _ _ _ _) (c .before .before .before .before .before .before .before .before .before .before .before .before .before .before .before .before .before .before .before .part-standing .ensures) _ _ _ _ (c .before .before .before .before .before .before .before .before .before .before .before .before .before .before .before .before .before .before .before .before .before .before .before .before .before .before .before .before .before .before .before .before .before .before .pre .0) (c .before .before .before .before .before .before .before .before .before .before .before .before .before .before .before .before .before .before .before .before .before .before .before .before .before .before .before .before .before .before .before .before .before .before .pre .1) _ _ (c .before .before .before .before .before .before .before .before .before .before .before .before .before .before .before .before .before .read-in .ensures .0) (c .before .before .before .before .before .before .before .before .before .before .before .before .before .before .before .before .before .read-in .ensures .1) (a .k) (marksIn (now (a .kinds)) (now (a .places)) (now (a .companions))) (now (a .records)) (c .before .before .before .before .before .before .before .before .before .before .before .before .before .before .mark-read .ensures) (c .before .before .before .before .before .before .before .before .before .before .put-mark .ensures) (c .before .before .put-number .ensures)
 
 pub read-one-spec : {M : Type 1} → statement M
 read-one-spec =
@@ -65,11 +65,11 @@ read-one-spec =
     (tie.spec
     is-there-requires
     part-standing-requires
-    mul-read-own
-    sub-read-own
-    part-read-own-start
-    part-read-own-end
-    read-own-requires
+    mul-read-in
+    sub-read-in
+    part-read-in-start
+    part-read-in-end
+    read-in-requires
     mark-read-requires
     put-mark-requires
     put-number-requires
