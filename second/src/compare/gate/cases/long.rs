@@ -141,6 +141,43 @@ fn add_mixed_targets(cases: &mut Cases, link: &Link) {
     }
 }
 
+/// Texts as they are spelled: of plain bytes, in capitals, with a space, with escapes of a letter, a space, a quote and a
+/// backslash, one that begins another, and one letter alone. Some are one text.
+const SPELLINGS: [&str; 11] = [
+    r#""ab""#,
+    r#""AB""#,
+    r#""a\u0062""#,
+    r#""a b""#,
+    r#""a\u0020b""#,
+    r#""a\"b""#,
+    r#""a\u0022b""#,
+    r#""a\\""#,
+    r#""a\\b""#,
+    r#""abc""#,
+    r#""a""#,
+];
+
+/// Targets that stand beside their askers, record for record, and are the same bytes or not, the same text or not.
+pub(super) fn add_all_copies(cases: &mut Cases) {
+    for link in links() {
+        for asked in SPELLINGS {
+            for held in SPELLINGS {
+                add_copies(cases, &link, asked, held);
+            }
+        }
+    }
+}
+
+/// The second of three records asks for a text, and the second of three searched records has that or another.
+fn add_copies(cases: &mut Cases, link: &Link, asked: &str, held: &str) {
+    let mut asking: Vec<Draft> = (0..3).map(|number| asking_record(link, number)).collect();
+    asking[1] = asking[1].clone().with_value(link.field, asked.as_bytes());
+    let mut searched: Vec<Draft> = (0..3).map(|number| searched_record(link, number)).collect();
+    searched[1] = searched[1].clone().with_value(link.other_field, held.as_bytes());
+    let set = SetDraft::empty().with_records(link.file, &asking);
+    cases.judge_set(&set.with_records(link.other, &searched));
+}
+
 /// So many records that ask for one ID each.
 fn asking_set(link: &Link, count: usize) -> SetDraft {
     let asking: Vec<Draft> = (0..count).map(|number| asking_record(link, number)).collect();

@@ -69,6 +69,7 @@ pub fn all_cases(seed: u64) -> Vec<GateCase> {
     enumerations::add_all_runs(&mut cases);
     long::add_all_mixed_targets(&mut cases);
     one_sum::add_all_pairs(&mut cases);
+    long::add_all_copies(&mut cases);
     cases.list
 }
 
