@@ -111,8 +111,8 @@ extern "C" {
 #endif
 
 /* ---- The exported calls. `kinds`, `places` and `companions` are a board: lists of as many as the gate has marks. `work` is a
- * workspace of at least KNOTSADDLE_WORKSPACE numbers, whatever they are. After the answer 0 it holds what was read, with
- * what stood there before behind each table's records; after any other it is as it was. It may be lent again as it is. */
+ * workspace of at least KNOTSADDLE_WORKSPACE numbers, whatever they are. After the answer 0 it holds what was read, and
+ * elsewhere it may hold what it held; after any other it is as it was. It may be lent again as it is. */
 
 /* Judges a bundle in full: the board gets its marks. */
 uint32_t knotsaddle_judge(uint32_t gate,
