@@ -14,6 +14,11 @@ use Rattle.json_date.specs.declared.Date.{Date}
 use Rattle.json_date.specs.declared.Date.the-variants.{Day, NoDate}
 use Rattle.json_date.specs.Date.{isLeap, monthDays, isDay, allDigitsAt, twoAt, hasForm, yearOf, monthOf, dayOf, dateOf}
 
+-- ---- a number between two others
+pub lies-within : (lo hi x : ℕ) → lo ≤ x → x ≤ hi → within lo hi x ≡ true
+unfolding within
+lies-within lo hi x a b = rw (le-leb lo x a, le-leb x hi b)
+
 -- ---- two digits
 pub record Digit (c : ℕ) : Type 0 where
   pub from : 48 ≤ c
@@ -90,9 +95,8 @@ month-least y m =
     (λ _. by-test (λ (n : ℕ). 28 ≤ n) (eqb m 4 || (eqb m 6 || (eqb m 9 || eqb m 11))) 30 31 (λ _. omega arith) (λ _. omega arith))
 
 pub day-early : (y m d : ℕ) → within 1 28 d ≡ true → within 1 (monthDays y m) d ≡ true
-unfolding within
 day-early y m d e =
-    rw (le-leb 1 d (within-from 1 28 d e), le-leb d (monthDays y m) (omega (arith, within-to 1 28 d e, month-least y m)))
+    lies-within 1 (monthDays y m) d (within-from 1 28 d e) (omega (arith, within-to 1 28 d e, month-least y m))
 
 -- ---- a day of a date lies in years 1 to 9999, months 1 to 12 and days 1 to the month's last, 31 at most
 pub record Dated (y m d : ℕ) : Type 0 where

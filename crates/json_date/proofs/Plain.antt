@@ -1,18 +1,18 @@
 -- Ten bytes that have the form of a date stand for themselves: the string of them has these characters.
 -- Assumes nothing.
-use Prim.Native.Nat.{ℕ, zero, suc, _+_, _-_, _≤_, _<_}
+use Prim.Native.Nat.{ℕ, zero, suc, _+_, _*_, _-_, _≤_, _<_}
 use mathlib.Core.Path.{_≡_, refl, sym, ap, _∙_}
 use mathlib.Core.Bool.{Bool, true, false, _&&_, false≢true}
 use mathlib.Core.List.{List, [], _∷_}
 use mathlib.Core.Logic.{_⊎_, inl, inr, ⊎-elim}
 use native.Mathlib.Nat.{add-zero}
 use native.Mathlib.Omega.{arith}
-use borrow.Author.Tests.{eqb-true, ne-eqb}
+use borrow.Author.Tests.{eqb-true, eq-eqb, ne-eqb}
 use lib.ListN.{length, getD, take, drop}
 use lib.Seq.{drop-cons}
 use lib.Dec.{eqb, lit<}
-use Rattle.json_bytes.specs.Reads.{byteAt}
-use Rattle.json_bytes.proofs.Laws.{inside, both-left, both-right}
+use Rattle.json_bytes.specs.Reads.{byteAt, within}
+use Rattle.json_bytes.proofs.Laws.{inside, both-left, both-right, within-from, within-to}
 use Rattle.json_chars.specs.Step.{stepAt}
 use Rattle.json_chars.specs.Chars.{charsAt}
 use Rattle.json_chars.specs.declared.Step.the-variants.{Char}
@@ -20,9 +20,9 @@ use Rattle.json_chars.proofs.Walk.{own-step}
 use Rattle.json_chars.proofs.Plain.{Own, chars-plain}
 use Rattle.json_date.specs.declared.Date.{Date}
 use Rattle.json_date.specs.declared.Date.the-variants.{Day, NoDate}
-use Rattle.json_date.specs.Date.{hasForm, dateOf}
-use Rattle.json_date.specs.Plain.{isTold, isPlainDate}
-use Rattle.json_date.proofs.Laws.{Digit, first-digit, second-digit, Form, form, no-form}
+use Rattle.json_date.specs.Date.{isDay, allDigitsAt, twoAt, hasForm, yearOf, monthOf, dayOf, dateOf}
+use Rattle.json_date.specs.Plain.{isTold, isPlainDate, isTwoOf}
+use Rattle.json_date.proofs.Laws.{Digit, first-digit, second-digit, Form, form, no-form, lies-within, day-early}
 
 -- ---- the bytes from a place on, one by one
 upTo : ℕ → List ℕ → ℕ → ℕ → List ℕ
@@ -143,3 +143,46 @@ plain-date s at e =
       bytes = form-byte s at l _ refl (told-form _ t);
       told = told-whole _ _ (plain-or-none s at l _ refl q c _ refl) t;
     }
+
+-- there is none so near the end of the file that its closing quote would stand behind it
+pub past-end : (s : List ℕ) (at : ℕ) → length s ≤ at + 11 → isPlainDate s at ≡ false
+past-end s at l = go (isPlainDate s at) refl
+  where
+    go : (t : Bool) → isPlainDate s at ≡ t → isPlainDate s at ≡ false
+    go false e = e
+    go true e = absurd (omega (arith, plain-date s at e .within))
+
+-- ---- a date of a year from 1000 on, in any month up to its 28th, by its ten bytes
+record Two (a b most : ℕ) : Type 0 where
+  pub tens : within 48 57 a ≡ true
+  pub ones : within 48 57 b ≡ true
+  pub number : within 1 most ((a - 48) * 10 + (b - 48)) ≡ true
+
+two : (a b most : ℕ) → isTwoOf a b most ≡ true → Two a b most
+unfolding isTwoOf
+two a b most e =
+    let behind : (within 48 57 b && within 1 most ((a - 48) * 10 + (b - 48))) ≡ true = both-right (within 48 57 a) _ e in
+    record {
+      tens = both-left (within 48 57 a) _ e;
+      ones = both-left (within 48 57 b) _ behind;
+      number = both-right (within 48 57 b) _ behind;
+    }
+
+module _ (a b c d : ℕ) (ea : within 49 57 a ≡ true) (eb : within 48 57 b ≡ true) (ec : within 48 57 c ≡ true) (ed : within 48 57 d ≡ true) where
+  first-of-year : within 48 57 a ≡ true
+  first-of-year = lies-within 48 57 a (omega (arith, within-from 49 57 a ea)) (within-to 49 57 a ea)
+
+  year-from-1000 : within 1 9999 (((a - 48) * 10 + (b - 48)) * 100 + ((c - 48) * 10 + (d - 48))) ≡ true
+  year-from-1000 =
+      lies-within 1 9999 _ (omega (arith, within-from 49 57 a ea))
+      (omega (arith, within-to 49 57 a ea, within-to 48 57 b eb, within-to 48 57 c ec, within-to 48 57 d ed))
+
+  early-told : (m e f n g h : ℕ) → m ≡ 45 → n ≡ 45 → isTwoOf e f 12 ≡ true → isTwoOf g h 28 ≡ true → isTold (dateOf (a ∷ b ∷ c ∷ d ∷ m ∷ e ∷ f ∷ n ∷ g ∷ h ∷ [])) ≡ true
+  unfolding isTold dateOf hasForm isDay allDigitsAt twoAt yearOf monthOf dayOf
+  early-told m e f n g h em en month day =
+      let mo = two e f 12 month in
+      let da = two g h 28 day in
+      rw (eq-eqb m 45 em, eq-eqb n 45 en, first-of-year, eb, ec, ed, mo .tens, mo .ones, da .tens, da .ones, year-from-1000, mo .number, day-early _ _ _ (da .number))
+
+pub early-at : (s : List ℕ) (i : ℕ) → i + 10 ≤ length s → byteAt s (i + 4) ≡ 45 → byteAt s (i + 7) ≡ 45 → within 49 57 (byteAt s i) ≡ true → within 48 57 (byteAt s (i + 1)) ≡ true → within 48 57 (byteAt s (i + 2)) ≡ true → within 48 57 (byteAt s (i + 3)) ≡ true → isTwoOf (byteAt s (i + 5)) (byteAt s (i + 6)) 12 ≡ true → isTwoOf (byteAt s (i + 8)) (byteAt s (i + 9)) 28 ≡ true → isTold (dateOf (take 10 (drop i s))) ≡ true
+early-at s i l m n a b c d month day = rw (ten-bytes s i l) (early-told _ _ _ _ a b c d _ _ _ _ _ _ m n month day)

@@ -5,10 +5,10 @@ ghost use mathlib.Core.Bool.{true};
 ghost use mathlib.Core.Logic.{_⊎_};
 ghost use Prim.Native.Nat.{_+_, _≤_, _<_};
 ghost use lib.ListN.{length, take, drop};
-ghost use Rattle.json_bytes.specs.Reads.{byteAt};
+ghost use Rattle.json_bytes.specs.Reads.{byteAt, within};
 ghost use Rattle.json_chars.specs.Chars.{charsAt};
 ghost use Rattle.json_date.specs.Date.{isLeap, monthDays, isDay, allDigitsAt, twoAt, hasForm, dateOf};
-ghost use Rattle.json_date.specs.Plain.{isTold, isPlainDate};
+ghost use Rattle.json_date.specs.Plain.{isTold, isPlainDate, isTwoOf};
 use json_bytes::byte_at;
 use json_bytes::is_within;
 use json_chars::Step;
@@ -178,18 +178,72 @@ fn is_told(date: Date) -> bool
     }
 }
 
+fn is_digit(b: u8) -> bool
+    ensures { λ r. ⌜ r ≡ within 48 57 b ⌝ }
+{
+    is_within(48, 57, wide(b))
+}
+
+// Whether two bytes are digits whose number is from 1 to `most`.
+fn is_two_of(a: u8, b: u8, most: u32) -> bool
+    ensures { λ r. ⌜ r ≡ isTwoOf a b most ⌝ }
+{
+    if is_digit(a) {
+        if is_digit(b) {
+            return is_within(1, most, (wide(a) - 48) * 10 + (wide(b) - 48));
+        }
+    }
+    false
+}
+
+// Whether the ten bytes from a place on are a date of a year from 1000 on, in any month up to its 28th:
+// nearly every date is one, and is told without a list of ten numbers. `false` tells nothing.
+fn is_early_day(s: &[u8], i: usize) -> bool
+    requires { ⌜ i + 10 ≤ length (now s) ⌝ }
+    ensures { λ r. ⌜ (r ≡ true → isTold (dateOf (take 10 (drop i (now (s .entry))))) ≡ true) ⌝ }
+{
+    if s[i + 4] != 45 {
+        return false;
+    }
+    if s[i + 7] != 45 {
+        return false;
+    }
+    if is_within(49, 57, wide(s[i])) {
+        if is_digit(s[i + 1]) {
+            if is_digit(s[i + 2]) {
+                if is_digit(s[i + 3]) {
+                    if is_two_of(s[i + 5], s[i + 6], 12) {
+                        return is_two_of(s[i + 8], s[i + 9], 28);
+                    }
+                }
+            }
+        }
+    }
+    false
+}
+
 // Whether a quote, ten bytes that are a date as they stand, and a quote begin at a place: then they are a
-// whole string, and its date is told without reading it.
+// whole string, and its date is told without reading it. The length is compared first, so that no byte
+// asks again whether it stands in the file.
 pub fn is_plain_date(s: &[u8], at: usize) -> bool
     ensures { λ r. ⌜ r ≡ isPlainDate (now (s .entry)) at ⌝ }
 {
-    if byte_at(s, at) != 34 {
+    if s.len() < 12 {
         return false;
     }
-    if byte_at(s, at + 11) == 34 {
-        return is_told(date_of(&ten_at(s, at + 1)));
+    if s.len() - 12 < at {
+        return false;
     }
-    false
+    if s[at] != 34 {
+        return false;
+    }
+    if s[at + 11] != 34 {
+        return false;
+    }
+    if is_early_day(s, at + 1) {
+        return true;
+    }
+    is_told(date_of(&ten_at(s, at + 1)))
 }
 
 // The date of a string, character by character.
