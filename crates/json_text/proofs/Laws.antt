@@ -157,12 +157,17 @@ unfolding wrongHere
 right-here w i tidy = tidy
 
 module _ (ty : TextType) (s : List ℕ) (at : ℕ) (w : Wrong) where
-  -- one of them
+  -- a character from U+0021 to U+007E breaks no rule, and behind it there is no edge
+  pub along-graphic : (i code next : ℕ) (edge : Bool) → Left ty s at w i edge → stepAt s i ≡ Char code next → within 0x21 0x7E code ≡ true → Left ty s at w next false
+  along-graphic i code next edge left step g =
+      rw (ne-eqb code 32 (λ e. omega (arith, within-from 0x21 0x7E code g))) at
+      (take-char ty s at w i edge left code next 0 (edge || closesAt s next) w step refl (sym (graphic-right code (within 0x21 0x7E code) refl g ty (edge || closesAt s next))) (sym (right-here w i (left .tidy))))
+
+  -- one of the run
   along-one : (i : ℕ) (edge : Bool) → Left ty s at w i edge → isGraphic (byteAt s i) ≡ true → Left ty s at w (i + 1) false
   along-one i edge left g =
       let one = graphic-step s i g in
-      rw (ne-eqb (byteAt s i) 32 (λ e. omega (arith, within-from 0x21 0x7E (byteAt s i) (one .1)))) at
-      (take-char ty s at w i edge left (byteAt s i) (i + 1) 0 (edge || closesAt s (i + 1)) w (one .0) refl (sym (graphic-right (byteAt s i) (within 0x21 0x7E (byteAt s i)) refl (one .1) ty (edge || closesAt s (i + 1)))) (sym (right-here w i (left .tidy))))
+      along-graphic i (byteAt s i) (i + 1) edge left (one .0) (one .1)
 
   -- as many as there are
   along-all : (n i : ℕ) (edge : Bool) → Left ty s at w i edge → ((k : ℕ) → i ≤ k → k < i + suc n → isGraphic (byteAt s k) ≡ true) → Left ty s at w (i + suc n) false

@@ -3,5 +3,6 @@ pub mod Laws
 pub mod Plain
 pub mod Bounds
 pub mod Spaces
+pub mod Escape
 pub mod Cases
 pub mod FaultKinds

@@ -3,6 +3,8 @@ ghost use mathlib.Core.Path.{_≡_};
 ghost use mathlib.Core.Bool.{_||_};
 ghost use Rattle.json_text.specs.Run.{isGraphic, runEnd, plainEnd, edgeBehind, innerSpace};
 ghost use Rattle.json_text.specs.Text.{barred, whiteSpace, blanks, inRuns, isWhite, wrongSpace, outsideID, ruleBroken, wrongHere, firstWrong, closesAt, textRead};
+ghost use mathlib.Core.Bool.{true};
+ghost use Rattle.json_text.specs.Escape.{PlainEscape};
 use json_bytes::Reading;
 use json_bytes::byte_at;
 use json_bytes::is_within;
@@ -242,9 +244,47 @@ fn is_inner_space(s: &[u8], i: usize, j: usize) -> bool
     false
 }
 
+// Whether an escape stands at j whose character breaks no rule of any type: `\u0030` to `\u007e`, a digit over 9
+// written small. What is no such escape is left to a step.
+fn is_plain_escape(s: &[u8], j: usize) -> bool
+    ensures { λ r. ⌜ (r ≡ true → PlainEscape (now (s .entry)) j) ⌝ }
+{
+    if s.len() < 6 {
+        return false;
+    }
+    if s.len() - 6 < j {
+        return false;
+    }
+    if s[j] != 92 {
+        return false;
+    }
+    if s[j + 1] != 117 {
+        return false;
+    }
+    if s[j + 2] != 48 {
+        return false;
+    }
+    if s[j + 3] != 48 {
+        return false;
+    }
+    if !is_within(51, 55, s[j + 4] as u32) {
+        return false;
+    }
+    if is_within(48, 57, s[j + 5] as u32) {
+        return true;
+    }
+    if is_within(97, 101, s[j + 5] as u32) {
+        return true;
+    }
+    if s[j + 5] == 102 {
+        return s[j + 4] != 55;
+    }
+    false
+}
+
 // The string whose opening quote stands at `at`: the place behind its closing quote or its fault,
 // and its first character that breaks a rule of the type. Most bytes are in runs, and most others are the space
-// between two words: neither needs a step.
+// between two words or in a plain escape: none of these needs a step.
 pub fn read_text(s: &[u8], at: usize, ty: TextType) -> TextRead
     ensures { λ r. ⌜ r ≡ textRead ty (now (s .entry)) at ⌝ }
 {
@@ -272,6 +312,9 @@ pub fn read_text(s: &[u8], at: usize, ty: TextType) -> TextRead
         if is_inner_space(s, i, j) {
             edge = true;
             i = j + 1;
+        } else if is_plain_escape(s, j) {
+            edge = false;
+            i = j + 6;
         } else {
             match step_at(s, j) {
                 Step::Char { code, next } => {
