@@ -1,14 +1,23 @@
 // Rules on one field of a record: an enumeration's value, null unless a condition holds, given if
 // one does.
 ghost use mathlib.Core.Path.{_≡_};
+ghost use Prim.Native.Nat.{_+_, _<_};
 ghost use lib.Dec.{ltb};
+ghost use Rattle.json_same.specs.Same.{sameList};
+ghost use Rattle.table_rows.specs.Rows.{valueTextAt};
 ghost use Rattle.rule_cells.specs.Cells.{table};
 ghost use Rattle.rule_value.specs.Value.{isOneOf, breaksField, fieldRule};
 ghost use Rattle.rule_value.specs.declared.FieldRule.the-variants.{OneOf};
+use json_text::plain_end;
+use parts::part;
 use rule_cells::is_given;
+use rule_cells::start_of;
 use rule_when::When;
 use rule_when::holds_when;
 use rule_when::is_value;
+use table_name::same_bytes;
+use table_rows::value_end;
+use table_rows::value_start;
 
 pub enum FieldRule {
     // One of `count` enumeration values from number `first` on, or null.
@@ -46,7 +55,47 @@ fn which_of(
     n
 }
 
-// The same, the value `last` tried first if it is one of them.
+// Whether a word is value v of the enumeration values, letter for letter.
+fn is_spelled(word: &[u8], places: &[u32], texts: &[u8], v: usize) -> bool
+    ensures { λ x. ⌜ x ≡ sameList (now (word .entry)) (valueTextAt (now (places .entry)) (now (texts .entry)) v) ⌝ }
+{
+    let from = value_start(places, v);
+    let to = value_end(places, v);
+    same_bytes(word, part(texts, from, to))
+}
+
+// Which of the `count` values from number `first` on a word is, letter for letter; `count` where it is spelled as
+// none of them: of such a word nothing is told, for it may be one in other case. The value `guess` is tried first
+// if it is one of them.
+fn spelled_of(
+    word: &[u8],
+    places: &[u32],
+    texts: &[u8],
+    first: u32,
+    count: u32,
+    guess: usize,
+) -> usize
+    ensures { λ x. ⌜ (x < count → valueTextAt (now (places .entry)) (now (texts .entry)) (first + x) ≡ now (word .entry)) ⌝ }
+{
+    let from = first as usize;
+    let n = count as usize;
+    if guess < n {
+        if is_spelled(word, places, texts, from + guess) {
+            return guess;
+        }
+    }
+    let mut i = 0;
+    while i < n {
+        if is_spelled(word, places, texts, from + i) {
+            return i;
+        }
+        i += 1;
+    }
+    n
+}
+
+// As which_of, the value `last` tried first if it is one of them. Most values are written plainly and spelled as
+// they are listed: those are told by their bytes, and texts are compared only where bytes tell nothing.
 fn find_value(
     s: &[u8],
     cells: &[u32],
@@ -63,6 +112,14 @@ fn find_value(
 {
     let from = first as usize;
     let n = count as usize;
+    let at = start_of(cells, width, r, k);
+    let close = plain_end(s, at);
+    if 0 < close {
+        let i = spelled_of(part(s, at + 1, close), places, texts, first, count, last);
+        if i < n {
+            return i;
+        }
+    }
     if last < n {
         if is_value(s, cells, width, r, k, places, texts, from + last) {
             return last;
