@@ -7,27 +7,24 @@ use mathlib.Core.Bool.{Bool, true, false}
 use mathlib.Core.List.{List}
 use native.Mathlib.Nat.{sub-zero}
 use native.Mathlib.Omega.{arith}
-use borrow.Author.Tests.{ne-eqb, eqb-true}
-use lib.Dec.{eqb}
+use borrow.Author.Tests.{eqb-true}
 use Rattle.text_order.specs.declared.Compared.{Compared}
 use Rattle.text_order.specs.declared.Compared.the-variants.{Less, Same, More}
-use Rattle.rule_cells.specs.Cells.{Table, table, textOf, integerIn, dateIn, firstFrom, firstThat}
+use Rattle.rule_cells.specs.Cells.{Table, table, textOf, integerIn, dateIn, firstThat}
 use Rattle.rule_cells.proofs.First.{first-none}
-use Rattle.rule_cells.proofs.Laws.{search-hits, search-goes-on, search-ends}
 use Rattle.rule_key.specs.declared.Key.{Key}
-use Rattle.rule_key.specs.Key.{sameKey, earliest, keyRule}
-use Rattle.rule_key.proofs.Compare.{rule-is}
-use Rattle.rule_key.proofs.Laws.{Distinct, distinct-holds}
+use Rattle.rule_key.specs.Key.{sameKey, keyRule}
+use Rattle.rule_key.proofs.Laws.{Distinct}
 use Rattle.key_order.specs.Order.{fieldParts, fieldOrder, keyOrder}
 use Rattle.key_order.proofs.Compared.{Comparison}
 use Rattle.key_order.proofs.Laws.{key-comparison, same-key-order}
 use Rattle.ordered_key.specs.Ascending.{isNotLess, noRise, ascending}
+use Rattle.ordered_key.proofs.None.{NoneLeft, none-goes-on, one-hits, none-ends, distinct-gives-rule}
 
 -- ---- the search: what is left of it at record i
 module _ (order : ℕ → ℕ → Compared) (n i : ℕ) where
-  -- whether none is left answers as the whole search does
   abbrev pub Climbed : Type 0
-  Climbed = ascending order n ≡ eqb (firstFrom (noRise order) (n - 1 - i) i) 0
+  Climbed = NoneLeft (ascending order n) (noRise order) (n - 1) i
 
 pub climb-starts : (order : ℕ → ℕ → Compared) (n : ℕ) → Climbed order n 0
 unfolding ascending firstThat
@@ -41,22 +38,18 @@ module _ (order : ℕ → ℕ → Compared) (n i : ℕ) (w : Climbed order n i) 
 
     pub climb-goes-on : r ≡ Less → Climbed order n (i + 1)
     unfolding isNotLess
-    climb-goes-on e = w ∙ ap (λ (x : ℕ). eqb x 0) (search-goes-on (noRise order) (n - 1) i (omega arith) (here Less e))
-
-    hits : noRise order i ≡ true → false ≡ ascending order n
-    hits e =
-        sym (w ∙ ap (λ (x : ℕ). eqb x 0) (search-hits (noRise order) (n - 1) i (omega arith) e) ∙ ne-eqb (i + 1) 0 (λ z. omega arith))
+    climb-goes-on e = none-goes-on _ (noRise order) (n - 1) i w (omega arith) (here Less e)
 
     pub same-no-rise : r ≡ Same → false ≡ ascending order n
     unfolding isNotLess
-    same-no-rise e = hits (here Same e)
+    same-no-rise e = one-hits _ (noRise order) (n - 1) i w (omega arith) (here Same e)
 
     pub more-no-rise : r ≡ More → false ≡ ascending order n
     unfolding isNotLess
-    more-no-rise e = hits (here More e)
+    more-no-rise e = one-hits _ (noRise order) (n - 1) i w (omega arith) (here More e)
 
   pub climb-ends : n ≤ i + 1 → true ≡ ascending order n
-  climb-ends l = sym (w ∙ ap (λ (x : ℕ). eqb x 0) (search-ends (noRise order) (n - 1) i (omega arith)))
+  climb-ends l = none-ends _ (noRise order) (n - 1) i w (omega arith)
 
 -- ---- where each record is less than the next, it is less than every later one
 module _ (order : ℕ → ℕ → Compared) (n : ℕ) (e : ascending order n ≡ true) where
@@ -91,11 +84,7 @@ module _ (t : Table) (key : Key) (e : ascending (keyOrder t key) (t .records) �
       go false f = refl
       go true f = let n : Less ≡ Same = sym (later-less (keyOrder t key) (t .records) e (key-comparison t key) i j l u) ∙ same-key-order t key i j f in cc
 
-  pub ascending-holds : keyRule t key ≡ record { «record» = 0; same = 0 }
-  unfolding keyRule earliest firstThat firstFrom
-  ascending-holds = rule-is t key 0 0 (distinct-holds t key ascending-distinct) refl
-
 -- ---- how many records a table has is no matter for two of them
 pub ascending-gives-rule : (s cells : List ℕ) (width n : ℕ) (key : Key) (r : Bool) → r ≡ ascending (keyOrder (table s cells width 0) key) n → r ≡ true → record { «record» = 0; same = 0 } ≡ keyRule (table s cells width n) key
 unfolding keyOrder fieldOrder fieldParts textOf integerIn dateIn
-ascending-gives-rule s cells width n key r is e = sym (ascending-holds (table s cells width n) key (sym is ∙ e))
+ascending-gives-rule s cells width n key r is e = sym (distinct-gives-rule (table s cells width n) key (ascending-distinct (table s cells width n) key (sym is ∙ e)))

@@ -1,3 +1,4 @@
 pub mod Sums
 pub mod Repeat
 pub mod Ascending
+pub mod Grouped

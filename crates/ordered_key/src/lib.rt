@@ -1,9 +1,10 @@
 // The rule "primary key" judged through an order of the records: equal keys stand beside each other in
 // it, so that each record is compared with one other. It is an order by sums first, made of each ID that
-// a key starts with: keys of different sums are not compared. Records whose keys ascend need none of
-// this: that is asked by itself, so that who asks it first makes no lists for them.
+// a key starts with: keys of different sums are not compared. Records whose keys ascend, or that come in
+// groups of one second ID, need none of this: each is asked by itself, so that who asks it first makes no
+// lists for them.
 ghost use mathlib.Core.Path.{_≡_};
-ghost use Prim.Native.Nat.{_+_, _<_};
+ghost use Prim.Native.Nat.{_+_, _<_, _≤_};
 ghost use lib.ListN.{length};
 ghost use Rattle.rule_cells.specs.Cells.{table};
 ghost use Rattle.rule_key.specs.Key.{sameKey, keyRule};
@@ -11,6 +12,7 @@ ghost use Rattle.key_order.specs.Order.{keyOrder};
 ghost use Rattle.ordered_key.specs.Sums.{keySumOf, keySums};
 ghost use Rattle.ordered_key.specs.Repeat.{sameSumAndKey, lesser, repeatOf, leastRepeat, breakAt};
 ghost use Rattle.ordered_key.specs.Ascending.{ascending};
+ghost use Rattle.ordered_key.specs.Grouped.{apart, grouped};
 use key_order::compare_keys;
 use key_order::compare_others;
 use key_order::order_by_sums;
@@ -147,6 +149,61 @@ pub fn is_ascending(s: &[u8], cells: &[u32], width: usize, records: usize, key: 
             }
             Compared::Same => {
                 return false;
+            }
+            Compared::More => {
+                return false;
+            }
+        }
+    }
+    true
+}
+
+// Whether record i has another key than each record from `from` on before it. Of a long group nothing is
+// told: it would take too many comparisons.
+fn is_apart(s: &[u8], cells: &[u32], width: usize, key: Key, from: usize, i: usize) -> bool
+    requires { ⌜ from ≤ i ⌝ }
+    ensures { λ r. ⌜ r ≡ apart (sameKey (table (now (s .entry)) (now (cells .entry)) width 0) key) from i ⌝ }
+{
+    if 8 < i - from {
+        return false;
+    }
+    let mut j = from;
+    while j < i {
+        if same_key(s, cells, width, key, j, i) {
+            return false;
+        }
+        j += 1;
+    }
+    true
+}
+
+// Whether the key's second field is an ID that never falls from one record to the next, and among the
+// records that share one no key is there twice: then none is at all. Links are often listed by their
+// successor and assignments by their task: where the keys do not ascend, this spares them the lists.
+pub fn is_grouped(s: &[u8], cells: &[u32], width: usize, records: usize, key: Key) -> bool
+    ensures { λ r. ⌜ r ≡ grouped (table (now (s .entry)) (now (cells .entry)) width 0) key records ⌝ }
+{
+    if key.b_kind != 1 {
+        return false;
+    }
+    let mut from = 0;
+    let mut i = 0;
+    while i + 1 < records {
+        match text_order(
+            s,
+            start_of(cells, width, i, key.b),
+            s,
+            start_of(cells, width, i + 1, key.b),
+        ) {
+            Compared::Less => {
+                i += 1;
+                from = i;
+            }
+            Compared::Same => {
+                i += 1;
+                if !is_apart(s, cells, width, key, from, i) {
+                    return false;
+                }
             }
             Compared::More => {
                 return false;

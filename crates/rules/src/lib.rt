@@ -9,6 +9,7 @@ ghost use Rattle.rule_tree.specs.Tree.{treeParentRule, leafRule};
 ghost use Rattle.rules.specs.Judge.{alone, ofKey, ofOutline, parentBreak, ruleBreak, isJudged, markOf};
 use mark_numbers::Mark;
 use ordered_key::is_ascending;
+use ordered_key::is_grouped;
 use ordered_key::key_rule_in;
 use ordered_leaf::leaf_rule_in;
 use ordered_outline::parent_type_rule_in;
@@ -83,12 +84,18 @@ fn unordered_break(s: &[u8], cells: &[u32], width: usize, records: usize, key: K
     ))
 }
 
-// The rule of marks 20–35. Keys that ascend do not repeat, and many tables come so: then no list of 4,096 is
-// made and cleared.
+// The rule of marks 20–35. Keys that ascend do not repeat, nor do those that differ within each group of one
+// second ID, and many tables come so: then no list of 4,096 is made and cleared.
 fn key_break(s: &[u8], cells: &[u32], width: usize, records: usize, key: Key) -> Break
     ensures { λ r. ⌜ r ≡ ofKey (keyRule (table (now (s .entry)) (now (cells .entry)) width records) key) ⌝ }
 {
     if is_ascending(s, cells, width, records, key) {
+        return Break {
+            record: 0,
+            other: 0,
+        };
+    }
+    if is_grouped(s, cells, width, records, key) {
         return Break {
             record: 0,
             other: 0,

@@ -1,20 +1,12 @@
 -- `ordered_key::compare_ids_first` meets its contract: of two IDs the texts decide first, and then the other fields.
-use Prim.Native.Nat.{ℕ}
-use mathlib.Core.Path.{_≡_, sym, _∙_}
+use mathlib.Core.Path.{sym, _∙_}
 use borrow.Author.Needs.{needs}
-use Rattle.text_order.specs.Order.{textOrder}
-use Rattle.text_order.specs.declared.Compared.{Compared}
-use Rattle.rule_cells.specs.Cells.{Table, startOf}
-use Rattle.key_order.specs.Order.{fieldOrder, keyOrder}
+use Rattle.key_order.specs.Order.{keyOrder}
 use Rattle.key_order.specs.Compare.{othersOrder}
 use Rattle.key_order.proofs.Compared.{then-less, then-more, then-next}
-use Rattle.key_order.proofs.Ways.{order-texts}
+use Rattle.ordered_key.proofs.Texts.{texts-are}
 use Rattle.ordered_key.proofs.compare_ids_first.Statement.{statement}
 use Rattle.ordered_key.proofs.compare_ids_first.Tie as tie
-
--- the first field of two records is what its two texts are
-texts-are : (t : Table) (kind k i j a b : ℕ) (r v : Compared) → kind ≡ 1 → a ≡ startOf (t .cells) (t .width) i k → b ≡ startOf (t .cells) (t .width) j k → r ≡ textOrder (t .bytes) a (t .bytes) b → r ≡ v → fieldOrder t kind k i j ≡ v
-texts-are t kind k i j a b r v e f g is told = order-texts t kind k i j e ∙ rw (← f, ← g) (sym is ∙ told)
 
 start-of-requires : tie.Need-start-of-requires
 start-of-requires c κs = search needs
