@@ -5,9 +5,10 @@ use Prim.Native.Nat.{ℕ, zero, suc, _+_, _-_, _≤_, _<_}
 use mathlib.Core.Path.{_≡_, refl, sym, ap, _∙_}
 use mathlib.Core.Bool.{Bool, true, false}
 use native.Mathlib.Omega.{arith}
-use borrow.Author.Tests.{ne-eqb}
+use borrow.Author.Tests.{eqb-true, ne-eqb}
 use lib.Dec.{eqb}
 use Rattle.rule_cells.specs.Cells.{Table, firstFrom, firstThat}
+use Rattle.rule_cells.proofs.First.{from-none}
 use Rattle.rule_cells.proofs.Laws.{search-hits, search-goes-on, search-ends}
 use Rattle.rule_key.specs.declared.Key.{Key}
 use Rattle.rule_key.specs.Key.{earliest, keyRule}
@@ -30,22 +31,8 @@ module _ (whole : Bool) (breaks : ℕ → Bool) (n i : ℕ) (w : NoneLeft whole 
   none-ends l = sym (w ∙ ap (λ (x : ℕ). eqb x 0) (search-ends breaks n i l))
 
 -- where it answers so, none of those left breaks
-module _ (breaks : ℕ → Bool) (n : ℕ) where
-  here-none : (i : ℕ) → NoneLeft true breaks n i → i < n → breaks i ≡ false
-  here-none i w l = go (breaks i) refl
-    where
-      go : (b : Bool) → breaks i ≡ b → b ≡ false
-      go false e = refl
-      go true e = let z : false ≡ true = one-hits true breaks n i w l e in cc
-
-  later-none : (i d : ℕ) → NoneLeft true breaks n i → i + d < n → breaks (i + d) ≡ false
-  later-none i zero w l = let z : i + 0 ≡ i = omega arith in rw z (here-none i w (omega arith))
-  later-none i (suc d) w l =
-      let z : i + suc d ≡ i + 1 + d = omega arith in
-      rw z (later-none (i + 1) d (none-goes-on true breaks n i w (omega arith) (here-none i w (omega arith))) (omega arith))
-
-  pub left-none : (i j : ℕ) → NoneLeft true breaks n i → i ≤ j → j < n → breaks j ≡ false
-  left-none i j w l u = let z : i + (j - i) ≡ j = omega arith in rw z at (later-none i (j - i) w (omega arith))
+pub left-none : (breaks : ℕ → Bool) (n i j : ℕ) → NoneLeft true breaks n i → i ≤ j → j < n → breaks j ≡ false
+left-none breaks n i j w l u = from-none breaks (n - i) i (eqb-true _ _ (sym w)) j l (omega arith)
 
 -- ---- no two records of one key
 pub distinct-gives-rule : (t : Table) (key : Key) → Distinct t key → keyRule t key ≡ record { «record» = 0; same = 0 }

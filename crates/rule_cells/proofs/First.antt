@@ -53,7 +53,7 @@ module _ (breaks : ℕ → Bool) where
           }
       go rest false p = first-again n i r p (rest (rw (p, firstFrom) at e))
 
-  from-none : (n i : ℕ) → firstFrom breaks n i ≡ 0 → (j : ℕ) → i ≤ j → j < i + n → breaks j ≡ false
+  pub from-none : (n i : ℕ) → firstFrom breaks n i ≡ 0 → (j : ℕ) → i ≤ j → j < i + n → breaks j ≡ false
   unfolding firstFrom
   from-none zero i e = λ j l u. absurd (omega arith)
   from-none (suc n) i e = go (from-none n (suc i)) (breaks i) refl
