@@ -1,4 +1,5 @@
 pub mod Opens
 pub mod Laws
+pub mod Eight
 pub mod Bounds
 pub mod FaultKinds

@@ -1,8 +1,9 @@
-// What every reader of a file's bytes stands on: a byte at a place, the answer of a reader, and
-// the two simplest readers.
+// What every reader of a file's bytes stands on: a byte at a place, or eight of them, the answer of a
+// reader, and the two simplest readers.
 ghost use mathlib.Core.Path.{_≡_};
-ghost use Prim.Native.Nat.{_<_};
+ghost use Prim.Native.Nat.{_+_, _≤_, _<_};
 ghost use lib.ListN.{length};
+ghost use Rattle.json_bytes.specs.Eight.{packedAt, hasEight, eightAt};
 ghost use Rattle.json_bytes.specs.Reads.{byteAt, within, isSpace, spacesEnd, literalAt, spelledAt};
 
 // What reading a token gives: the place behind it, or the kind and place of its fault.
@@ -18,6 +19,44 @@ pub fn byte_at(s: &[u8], i: usize) -> u8
 {
     if i < s.len() { s[i] } else { 0 }
 }
+
+// ---- Eight bytes at once
+fn wide(b: u8) -> u64
+    ensures { λ r. ⌜ (r ≡ b) × (r < 256) ⌝ }
+{
+    b as u64
+}
+
+// Four bytes as one number, the first the lowest.
+fn four_at(s: &[u8], i: usize) -> u64
+    requires { ⌜ i + 4 ≤ length (now s) ⌝ }
+    ensures { λ r. ⌜ (r ≡ packedAt 4 (now (s .entry)) i) × (r < 4294967296) ⌝ }
+{
+    wide(s[i]) + wide(s[i + 1]) * 256 + wide(s[i + 2]) * 65536 + wide(s[i + 3]) * 16777216
+}
+
+// Whether eight bytes stand from i on.
+pub fn has_eight(s: &[u8], i: usize) -> bool
+    ensures { λ r. ⌜ r ≡ hasEight (now (s .entry)) i ⌝ }
+{
+    if s.len() < 8 {
+        return false;
+    }
+    i <= s.len() - 8
+}
+
+// Eight bytes from i on as one number, the first the lowest; 0 where there are fewer. Read so, they are one load, and
+// where has_eight was tested before, it is not tested again.
+pub fn eight_at(s: &[u8], i: usize) -> u64
+    ensures { λ r. ⌜ r ≡ eightAt (now (s .entry)) i ⌝ }
+{
+    if has_eight(s, i) {
+        return four_at(s, i) + four_at(s, i + 4) * 4294967296;
+    }
+    0
+}
+
+// ---- The simplest tests and readers
 
 // Whether a number lies from lo to hi, both included.
 pub fn is_within(lo: u32, hi: u32, x: u32) -> bool

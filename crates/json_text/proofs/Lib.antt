@@ -1,4 +1,5 @@
 pub mod Opens
+pub mod Flags
 pub mod Laws
 pub mod Plain
 pub mod Bounds

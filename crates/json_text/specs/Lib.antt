@@ -1,3 +1,4 @@
 pub mod Text
 pub mod Escape
 pub mod Run
+pub mod Eight

@@ -1,12 +1,15 @@
 // A string read whole, with the first character that breaks a rule of its type, in one pass.
 ghost use mathlib.Core.Path.{_≡_};
 ghost use mathlib.Core.Bool.{_||_};
+ghost use Rattle.json_text.specs.Eight.{oddBytes, firstByte};
 ghost use Rattle.json_text.specs.Run.{isGraphic, runEnd, plainEnd, edgeBehind, innerSpace};
 ghost use Rattle.json_text.specs.Text.{barred, whiteSpace, blanks, inRuns, isWhite, wrongSpace, outsideID, ruleBroken, wrongHere, firstWrong, closesAt, textRead};
 ghost use mathlib.Core.Bool.{true};
 ghost use Rattle.json_text.specs.Escape.{PlainEscape};
 use json_bytes::Reading;
 use json_bytes::byte_at;
+use json_bytes::eight_at;
+use json_bytes::has_eight;
 use json_bytes::is_within;
 use json_chars::Step;
 use json_chars::step_at;
@@ -187,19 +190,56 @@ fn is_graphic(b: u8) -> bool
     is_within(0x21, 0x7E, b as u32)
 }
 
-// The first place from i on that does not hold such a byte.
+// The first place from i on that does not hold such a byte, byte by byte.
+fn bytes_end(s: &[u8], i: usize) -> usize
+    ensures { λ r. ⌜ r ≡ runEnd (now (s .entry)) i ⌝ }
+{
+    let mut k = i;
+    while k < s.len() {
+        if is_graphic(s[k]) {
+            k += 1;
+        } else {
+            return k;
+        }
+    }
+    k
+}
+
+// Which bytes of a number are no such bytes: the highest bit of each that is none. The sums are of the seven lower
+// bits of each byte, so that none carries into the next; they reach the highest bit at 0x7F, from 0x21 on, and at all
+// but the quote or the backslash.
+fn odd_bytes(x: u64) -> u64
+    ensures { λ r. ⌜ r ≡ oddBytes x ⌝ }
+{
+    let y = x & 0x7F7F7F7F7F7F7F7F;
+    let over = y + 0x0101010101010101;
+    let graphic = y + 0x5F5F5F5F5F5F5F5F;
+    let no_quote = (y ^ 0x2222222222222222) + 0x7F7F7F7F7F7F7F7F;
+    let no_slash = (y ^ 0x5C5C5C5C5C5C5C5C) + 0x7F7F7F7F7F7F7F7F;
+    ((x | over) | (((graphic & no_quote) & no_slash) ^ 0x8080808080808080)) & 0x8080808080808080
+}
+
+// Which byte of a number, from 0, holds its lowest bit; 8 for the number 0.
+fn first_byte(x: u64) -> usize
+    ensures { λ r. ⌜ r ≡ firstByte x ⌝ }
+{
+    (u64::trailing_zeros(x) as usize) / 8
+}
+
+// The first place from i on that does not hold such a byte: eight bytes at a time while there are eight, as most
+// bytes of a file stand in runs.
 pub fn run_end(s: &[u8], i: usize) -> usize
     ensures { λ r. ⌜ r ≡ runEnd (now (s .entry)) i ⌝ }
 {
     let mut j = i;
-    while j < s.len() {
-        if is_graphic(s[j]) {
-            j += 1;
-        } else {
-            return j;
+    while has_eight(s, j) {
+        let odd = odd_bytes(eight_at(s, j));
+        if odd != 0 {
+            return j + first_byte(odd);
         }
+        j += 8;
     }
-    j
+    bytes_end(s, j)
 }
 
 // The place of the closing quote of the string whose opening quote stands at `at`, where only such bytes

@@ -1,4 +1,3 @@
 pub mod Name
-pub mod Eight
 pub mod Guess
 pub mod Hints

@@ -1,19 +1,19 @@
 // What stands around the values of a table: the name of a field, the colon behind it, and what
 // follows in an object or an array.
 ghost use mathlib.Core.Path.{_≡_};
-ghost use Prim.Native.Nat.{_+_, _≤_, _<_};
+ghost use Prim.Native.Nat.{_≤_, _<_};
 ghost use lib.ListN.{length};
 ghost use Rattle.json_chars.specs.Chars.{charsAt};
 ghost use mathlib.Core.Bool.{cond};
 ghost use lib.Dec.{ltb};
 ghost use Rattle.json_same.specs.Same.{sameAs, sameList};
 ghost use Rattle.table_rows.specs.Rows.{fieldNameAt, fieldsFrom};
-ghost use Rattle.table_name.specs.Eight.{fourAt, eightAt};
 ghost use Rattle.table_name.specs.Guess.{graphicWord, ownName, namesApart, quotedEnd, guessEnd};
 ghost use Rattle.table_name.specs.Hints.{hintOf, hintAt, withHint, hintsOf};
 ghost use Rattle.table_name.specs.Name.{indexOf, namedAt, nameAt, colonAt, firstIn, nextAfter};
 use json_bytes::Reading;
 use json_bytes::byte_at;
+use json_bytes::eight_at;
 use json_bytes::skip_spaces;
 use json_chars::Step;
 use json_chars::step_at;
@@ -76,28 +76,6 @@ fn same_each(a: &[u8], b: &[u8]) -> bool
         i += 1;
     }
     true
-}
-
-fn wide(b: u8) -> u64
-    ensures { λ r. ⌜ (r ≡ b) × (r < 256) ⌝ }
-{
-    b as u64
-}
-
-// Four bytes as one number, the first the lowest.
-fn four_at(s: &[u8], i: usize) -> u64
-    requires { ⌜ i + 4 ≤ length (now s) ⌝ }
-    ensures { λ r. ⌜ (r ≡ fourAt (now (s .entry)) i) × (r < 4294967296) ⌝ }
-{
-    wide(s[i]) + wide(s[i + 1]) * 256 + wide(s[i + 2]) * 65536 + wide(s[i + 3]) * 16777216
-}
-
-// Eight of them. Read so, they are one load.
-fn eight_at(s: &[u8], i: usize) -> u64
-    requires { ⌜ i + 8 ≤ length (now s) ⌝ }
-    ensures { λ r. ⌜ r ≡ eightAt (now (s .entry)) i ⌝ }
-{
-    four_at(s, i) + four_at(s, i + 4) * 4294967296
 }
 
 // Whether two lists of one length, eight bytes or more, are the same, eight at a time. The last eight are compared

@@ -36,7 +36,7 @@ loop-less : tie.Need-loop-less Inv-loop μ-loop
 loop-less c = omega arith
 
 loop-again : tie.Need-loop-again Inv-loop μ-loop
-loop-again c = alike-more _ _ (c .before .before .before .before .before .before .shared-slice-known .given) (c .before .before .before .before .before .shared-slice-known2 .given) _ (sym (c .before .before .eight-at .ensures) ∙ c .if1 .left ∙ c .before .eight-at2 .ensures) _ (omega arith) (c .before .before .before .before .loop .inv)
+loop-again c = alike-more _ _ (c .before .before .before .before .before .before .shared-slice-known .given) (c .before .before .before .before .before .shared-slice-known2 .given) (c .before .before .before .before .before .before .before .pre .1) _ (omega arith) (sym (c .before .before .eight-at .ensures) ∙ c .if1 .left ∙ c .before .eight-at2 .ensures) _ (omega arith) (c .before .before .before .before .loop .inv)
 
 eight-at-requires-3 : tie.Need-eight-at-requires-3 Inv-loop μ-loop
 eight-at-requires-3 c κs = search needs
@@ -45,7 +45,7 @@ eight-at-requires-4 : tie.Need-eight-at-requires-4 Inv-loop μ-loop
 eight-at-requires-4 c κs = search needs
 
 returns-2 : tie.Need-returns-2 Inv-loop μ-loop
-returns-2 c = eights-told _ _ (c .before .before .before .before .before .shared-slice-known .given) (c .before .before .before .before .shared-slice-known2 .given) _ _ (omega arith) (c .before .before .before .before .before .before .pre .1) (c .before .before .loop-test .left) (c .before .before .before .loop .inv) (c .before .eight-at3 .ensures) (c .eight-at4 .ensures)
+returns-2 c = eights-told _ _ (c .before .before .before .before .before .shared-slice-known .given) (c .before .before .before .before .shared-slice-known2 .given) (c .before .before .before .before .before .before .pre .1) _ (omega arith) _ (omega arith) (c .before .before .loop-test .left) (c .before .before .before .loop .inv) (c .before .eight-at3 .ensures) (c .eight-at4 .ensures)
 
 pub same-eights-spec : {M : Type 1} → statement M
 same-eights-spec =

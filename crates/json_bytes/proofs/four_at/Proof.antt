@@ -1,9 +1,9 @@
--- `table_name::four_at` meets its contract: each byte is read where it stands.
+-- `json_bytes::four_at` meets its contract: each byte is read where it stands.
 use native.Mathlib.Omega.{arith}
 use borrow.Author.Needs.{needs}
-use Rattle.table_name.proofs.Eights.{four-read}
-use Rattle.table_name.proofs.four_at.Statement.{statement}
-use Rattle.table_name.proofs.four_at.Tie as tie
+use Rattle.json_bytes.proofs.Eight.{four-read}
+use Rattle.json_bytes.proofs.four_at.Statement.{statement}
+use Rattle.json_bytes.proofs.four_at.Tie as tie
 
 shared-slice-read-wide : tie.Need-shared-slice-read-wide
 shared-slice-read-wide c = search needs
