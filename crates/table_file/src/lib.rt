@@ -8,6 +8,7 @@ ghost use Rattle.parts.specs.Files.{newFile};
 ghost use Rattle.table_rows.specs.Rows.{fieldsFrom};
 ghost use Rattle.table_name.specs.Guess.{namesApart};
 ghost use Rattle.table_record.specs.Record.{cellsFilled};
+ghost use Rattle.table_record.specs.Required.{requiredFrom};
 ghost use Rattle.table_file.specs.Table.{tableRead, endOfFile, singleRead, singleAt, elementAt, elementsFrom, arrayAt, readTable, companionOf};
 ghost use Rattle.table_file.specs.File.{omitted, fixedRead, fileOf, expectedFrom};
 use json_bytes::Reading;
@@ -20,6 +21,7 @@ use table_name::first_in;
 use table_name::names_apart;
 use table_name::next_after;
 use table_name::same_bytes;
+use table_record::fill_required;
 use table_record::read_record;
 use table_value::not_object_at;
 
@@ -102,7 +104,12 @@ fn read_single(
     ensures { λ r. ⌜ tableRead (now (cells .exit)) r ≡ singleAt (fieldsFrom (now (rows .entry)) (now (names .entry)) count 0) (now (s .entry)) (now (cells .entry)) at ⌝ }
 {
     if byte_at(s, at) == b'{' {
-        return single_of(s, read_record(s, at, rows, names, count, b"", cells, 0));
+        let mut required = [0u8; 64];
+        let n = fill_required(rows, count, &mut required);
+        return single_of(
+            s,
+            read_record(s, at, rows, names, count, b"", &required[..n], cells, 0),
+        );
     }
     single_of(s, not_object_at(s, at))
 }
@@ -115,10 +122,12 @@ fn element_at(
     names: &[u8],
     count: usize,
     hints: &[u8],
+    required: &[u8],
     cells: &mut [u32],
     r: usize,
 ) -> Reading
     requires { ⌜ (0 < length (now hints) → namesApart (now rows) (now names) count ≡ true) ⌝ }
+    requires { ⌜ (count ≤ 64 → now required ≡ requiredFrom (now rows) count 0) ⌝ }
     ensures { λ x. ⌜ cellsFilled (now (cells .exit)) x ≡ elementAt (fieldsFrom (now (rows .entry)) (now (names .entry)) count 0) (now (s .entry)) at (now (cells .entry)) r ⌝ }
 {
     if byte_at(s, at) != b'{' {
@@ -138,7 +147,17 @@ fn element_at(
             place: at,
         };
     }
-    read_record(s, at, rows, names, count, hints, cells, r * (2 * count))
+    read_record(
+        s,
+        at,
+        rows,
+        names,
+        count,
+        hints,
+        required,
+        cells,
+        r * (2 * count),
+    )
 }
 
 // The elements from `from` on, up to the closing bracket and the end of the file.
@@ -149,16 +168,18 @@ fn read_elements(
     names: &[u8],
     count: usize,
     hints: &[u8],
+    required: &[u8],
     cells: &mut [u32],
 ) -> FileRead
     requires { ⌜ (0 < from) × (from ≤ length (now s)) ⌝ }
     requires { ⌜ (0 < length (now hints) → namesApart (now rows) (now names) count ≡ true) ⌝ }
+    requires { ⌜ (count ≤ 64 → now required ≡ requiredFrom (now rows) count 0) ⌝ }
     ensures { λ r. ⌜ tableRead (now (cells .exit)) r ≡ elementsFrom (length (now (s .entry))) (fieldsFrom (now (rows .entry)) (now (names .entry)) count 0) (now (s .entry)) from (now (cells .entry)) 0 ⌝ }
 {
     let mut at = from;
     let mut r = 0;
     loop {
-        match element_at(s, at, rows, names, count, hints, cells, r) {
+        match element_at(s, at, rows, names, count, hints, required, cells, r) {
             Reading::Whole { end } => match next_after(s, end, b']') {
                 Next::More { at: next } => {
                     at = next;
@@ -188,9 +209,9 @@ fn read_elements(
     }
 }
 
-// The same. Whether the names are told apart by their bytes is found out once for all elements, and so are the
-// hints, which say by three bytes of a name which field it is likely to be. Where the names are not told apart,
-// there are no hints, and nothing is guessed.
+// The same. Which fields must hold a value is put down once for all elements, and whether the names are told
+// apart by their bytes is found out once, with the hints, which say by three bytes of a name which field it is
+// likely to be. Where the names are not told apart, there are no hints, and nothing is guessed.
 fn read_hinted(
     s: &[u8],
     from: usize,
@@ -202,12 +223,14 @@ fn read_hinted(
     requires { ⌜ (0 < from) × (from ≤ length (now s)) ⌝ }
     ensures { λ r. ⌜ tableRead (now (cells .exit)) r ≡ elementsFrom (length (now (s .entry))) (fieldsFrom (now (rows .entry)) (now (names .entry)) count 0) (now (s .entry)) from (now (cells .entry)) 0 ⌝ }
 {
+    let mut required = [0u8; 64];
+    let n = fill_required(rows, count, &mut required);
     if !names_apart(rows, names, count) {
-        return read_elements(s, from, rows, names, count, b"", cells);
+        return read_elements(s, from, rows, names, count, b"", &required[..n], cells);
     }
     let mut hints = [255u8; 256];
     fill_hints(rows, names, count, &mut hints);
-    read_elements(s, from, rows, names, count, &hints, cells)
+    read_elements(s, from, rows, names, count, &hints, &required[..n], cells)
 }
 
 // A table of records.

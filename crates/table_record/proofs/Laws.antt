@@ -1,27 +1,26 @@
 -- The cells after a store, one turn of each loop of a record's reading, and each way through the code as an equation.
 -- Assumes nothing.
-use Prim.Native.Nat.{ℕ, zero, suc, _+_, _-_, _*_, _^_, _≤_, _<_}
+use Prim.Native.Nat.{ℕ, zero, suc, _+_, _*_, _^_, _≤_, _<_}
 use mathlib.Core.Path.{_≡_, refl, sym, ap, _∙_}
-use mathlib.Core.Bool.{Bool, true, false, not}
+use mathlib.Core.Bool.{Bool, true, false}
 use mathlib.Core.List.{List, []}
 use native.Mathlib.Nat.{zero-add}
 use native.Mathlib.Numerals.{add-one}
 use native.Mathlib.Omega.{arith}
-use borrow.Author.Tests.{eq-eqb, ne-eqb, lt-ltb, le-ltb, le-leb, lt-leb, leb-true, ltb-true}
-use lib.ListN.{length, getD, set, List·getD-map}
+use borrow.Author.Tests.{lt-ltb, le-ltb, le-leb, lt-leb, leb-true, ltb-true}
+use lib.ListN.{length, set, List·getD-map}
 use lib.Dec.{ltb, leb}
 use Rattle.json_bytes.specs.declared.Reading.{Reading}
 use Rattle.json_bytes.specs.declared.Reading.the-variants.{Whole, Fault}
 use Rattle.json_bytes.proofs.Laws.{both-left, both-right}
 use Rattle.json_bytes.proofs.Bounds.{Within}
-use Rattle.table_rows.specs.Rows.{Field, typeAt, nullableAt, fieldAt, fieldsFrom}
+use Rattle.table_rows.specs.Rows.{Field, typeAt, fieldAt, fieldsFrom}
 use Rattle.table_rows.proofs.Laws.{fields-length, fields-at}
 use Rattle.table_name.specs.Name.{nameAt, colonAt, firstIn, nextAfter}
 use Rattle.table_name.specs.declared.NameRead.{NameRead}
 use Rattle.table_name.specs.declared.NameRead.the-variants.{Known, Unknown}
 use Rattle.table_name.specs.declared.Next.{Next}
 use Rattle.table_name.specs.declared.Next.the-variants.{More, Ends, Neither}
-use Rattle.table_name.proofs.Laws.{fields-next, fields-end}
 use Rattle.table_name.specs.Guess.{namesApart, guessEnd}
 use Rattle.table_name.proofs.Guess.{guess-right, apart-own}
 use Rattle.table_value.specs.Value.{valueAt}
@@ -33,7 +32,6 @@ use Rattle.table_record.specs.Record.{
   Filled,
   cellsFilled,
   startCell,
-  endCell,
   isRead,
   stored,
   cleared,
@@ -42,7 +40,6 @@ use Rattle.table_record.specs.Record.{
   afterColon,
   afterName,
   pairAt,
-  lacks,
   isMissing,
   closedAt,
   pairsFrom,
@@ -57,18 +54,6 @@ module _ (cells : List ℕ) (base : ℕ) where
   unfolding cleared
   cleared-more then i e = rw (add-one i, e)
 
--- ---- a field that holds a value lacks none, and one that holds none lacks it unless it may be null
-module _ (cells : List ℕ) (base k : ℕ) where
-  pub held-lacks : 0 < getD cells (base + 2 * k + 1) 0 → (n : Bool) → lacks n cells base k ≡ false
-  unfolding lacks endCell
-  held-lacks l true = refl
-  held-lacks l false = ne-eqb (getD cells (base + 2 * k + 1) 0) 0 (λ e. omega (arith, e))
-
-  pub none-lacks : getD cells (base + 2 * k + 1) 0 ≤ 0 → (n : Bool) → not n ≡ lacks n cells base k
-  unfolding lacks endCell
-  none-lacks l true = refl
-  none-lacks l false = sym (eq-eqb (getD cells (base + 2 * k + 1) 0) 0 (omega arith))
-
 -- ---- the fields
 module _ (rows names : List ℕ) (count k : ℕ) where
   noField : Field
@@ -80,19 +65,6 @@ module _ (rows names : List ℕ) (count k : ℕ) where
       List·getD-map (λ (f : Field). f .type) (fieldsFrom rows names count 0) k noField
       ∙ ap (λ (f : Field). f .type) (fields-at rows names noField count 0 k l)
       ∙ rw (zero-add k)
-
-  module _ (cells : List ℕ) (base : ℕ) (t : Bool) (isLacking : t ≡ lacks (nullableAt rows k) cells base k) where
-    pub missing-more : k < count → t ≡ false → isMissing (fieldsFrom rows names (count - k) k) cells base k ≡ isMissing (fieldsFrom rows names (count - (k + 1)) (k + 1)) cells base (k + 1)
-    unfolding isMissing fieldAt
-    missing-more l e = rw (fields-next rows names count k l, ← isLacking, e, add-one k)
-
-    pub missing-found : k < count → t ≡ true → isMissing (fieldsFrom rows names (count - k) k) cells base k ≡ true
-    unfolding isMissing fieldAt
-    missing-found l e = rw (fields-next rows names count k l, ← isLacking, e)
-
-  pub missing-none : (cells : List ℕ) (base : ℕ) → count ≤ k → isMissing (fieldsFrom rows names (count - k) k) cells base k ≡ false
-  unfolding isMissing
-  missing-none cells base l = rw (fields-end rows names count k l)
 
 -- ---- room for a record
 module _ (s cells : List ℕ) (base count : ℕ) where

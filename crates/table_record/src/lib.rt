@@ -3,12 +3,13 @@
 ghost use mathlib.Core.Path.{_≡_};
 ghost use mathlib.Core.Bool.{true};
 ghost use Prim.Native.Nat.{_+_, _*_, _^_, _≤_, _<_};
-ghost use lib.ListN.{length};
-ghost use Rattle.table_rows.specs.Rows.{fieldsFrom, nullableAt};
+ghost use lib.ListN.{length, take};
+ghost use Rattle.table_rows.specs.Rows.{fieldsFrom};
 ghost use Rattle.table_name.specs.Name.{nameAt};
 ghost use Rattle.table_name.specs.Guess.{namesApart};
 ghost use Rattle.table_value.specs.Value.{valueAt};
-ghost use Rattle.table_record.specs.Record.{cellsFilled, stored, cleared, storedValue, pairAt, pairsFrom, lacks, isMissing, closedAt, recordHasRoom, recordAt};
+ghost use Rattle.table_record.specs.Record.{cellsFilled, stored, cleared, storedValue, pairAt, pairsFrom, isMissing, closedAt, recordHasRoom, recordAt};
+ghost use Rattle.table_record.specs.Required.{requiredFrom, requiredBytes};
 use json_bytes::Reading;
 use table_name::NameRead;
 use table_name::Next;
@@ -136,28 +137,26 @@ fn pair_at(
     }
 }
 
-// Whether field k must hold a value and does not. Most hold one, which is the cheaper to see.
-fn is_lacking(rows: &[u32], k: usize, cells: &[u32], base: usize) -> bool
-    requires { ⌜ base + 2 * k + 1 < length (now cells) ⌝ }
-    ensures { λ r. ⌜ r ≡ lacks (nullableAt (now (rows .entry)) k) (now (cells .entry)) base k ⌝ }
-{
-    if 0 < cells[base + 2 * k + 1] {
-        return false;
-    }
-    !is_nullable(rows, k)
-}
-
-// Whether one of the fields does.
-fn is_missing(rows: &[u32], names: &[u8], count: usize, cells: &[u32], base: usize) -> bool
+// Whether one of the fields that must hold a value does not. `required` has their numbers, so that no
+// other is looked at.
+fn is_missing(
+    required: &[u8],
+    rows: &[u32],
+    names: &[u8],
+    count: usize,
+    cells: &[u32],
+    base: usize,
+) -> bool
     requires { ⌜ base + 2 * count ≤ length (now cells) ⌝ }
+    requires { ⌜ now required ≡ requiredFrom (now rows) count 0 ⌝ }
     ensures { λ r. ⌜ r ≡ isMissing (fieldsFrom (now (rows .entry)) (now (names .entry)) count 0) (now (cells .entry)) base 0 ⌝ }
 {
-    let mut k = 0;
-    while k < count {
-        if is_lacking(rows, k, cells, base) {
+    let mut i = 0;
+    while i < required.len() {
+        if cells[base + 2 * (required[i] as usize) + 1] == 0 {
             return true;
         }
-        k += 1;
+        i += 1;
     }
     false
 }
@@ -168,13 +167,15 @@ fn close_at(
     rows: &[u32],
     names: &[u8],
     count: usize,
+    required: &[u8],
     cells: &[u32],
     base: usize,
 ) -> Reading
     requires { ⌜ (at < 2 ^ 63) × (base + 2 * count ≤ length (now cells)) ⌝ }
+    requires { ⌜ now required ≡ requiredFrom (now rows) count 0 ⌝ }
     ensures { λ r. ⌜ r ≡ closedAt (fieldsFrom (now (rows .entry)) (now (names .entry)) count 0) (now (cells .entry)) base at ⌝ }
 {
-    if is_missing(rows, names, count, cells, base) {
+    if is_missing(required, rows, names, count, cells, base) {
         return Reading::Fault {
             kind: 19,
             place: at,
@@ -191,11 +192,13 @@ fn read_pairs(
     names: &[u8],
     count: usize,
     hints: &[u8],
+    required: &[u8],
     cells: &mut [u32],
     base: usize,
 ) -> Reading
     requires { ⌜ (length (now s) < 2 ^ 32) × (((0 < from) × (from ≤ length (now s))) × (base + 2 * count ≤ length (now cells))) ⌝ }
     requires { ⌜ (0 < length (now hints) → namesApart (now rows) (now names) count ≡ true) ⌝ }
+    requires { ⌜ now required ≡ requiredFrom (now rows) count 0 ⌝ }
     ensures { λ r. ⌜ cellsFilled (now (cells .exit)) r ≡ pairsFrom (length (now (s .entry))) (fieldsFrom (now (rows .entry)) (now (names .entry)) count 0) (now (s .entry)) from (now (cells .entry)) base ⌝ }
 {
     let mut at = from;
@@ -210,7 +213,7 @@ fn read_pairs(
                     guess = pair.next;
                 }
                 Next::Ends { at: last } => {
-                    return close_at(last, rows, names, count, cells, base);
+                    return close_at(last, rows, names, count, required, cells, base);
                 }
                 Next::Neither { at: place } => {
                     return Reading::Fault { kind: 11, place };
@@ -254,9 +257,30 @@ fn has_room(s: &[u8], cells: &[u32], base: usize, count: usize) -> bool
     true
 }
 
+// Puts down the numbers of the fields that must hold a value, as many as have room, and says how many
+// those are. A caller asks once for all records of a table.
+pub fn fill_required(rows: &[u32], count: usize, required: &mut [u8]) -> usize
+    ensures { λ r. ⌜ take r (now (required .exit)) ≡ requiredBytes (now (rows .entry)) count (length (now (required .entry))) ⌝ }
+    ensures { λ r. ⌜ r ≤ length (now (required .entry)) ⌝ }
+{
+    let mut n = 0;
+    let mut k = 0;
+    while k < count {
+        if !is_nullable(rows, k) {
+            if n < required.len() {
+                required[n] = (k % 256) as u8;
+                n += 1;
+            }
+        }
+        k += 1;
+    }
+    n
+}
+
 // The record whose opening brace stands at `at`, with the `count` fields that rows and names
 // describe; its cells start at base. Where there are hints the names are told apart by their bytes: a
-// caller finds that out once for all records of a table. Without any, no name is guessed.
+// caller finds that out once for all records of a table. Without any, no name is guessed. Which fields
+// must hold a value is put down once too; of more fields than 64, which have no room, it is not asked.
 pub fn read_record(
     s: &[u8],
     at: usize,
@@ -264,10 +288,12 @@ pub fn read_record(
     names: &[u8],
     count: usize,
     hints: &[u8],
+    required: &[u8],
     cells: &mut [u32],
     base: usize,
 ) -> Reading
     requires { ⌜ (0 < length (now hints) → namesApart (now rows) (now names) count ≡ true) ⌝ }
+    requires { ⌜ (count ≤ 64 → now required ≡ requiredFrom (now rows) count 0) ⌝ }
     ensures { λ r. ⌜ r ≡ recordAt (fieldsFrom (now (rows .entry)) (now (names .entry)) count 0) (now (s .entry)) at (now (cells .entry)) base .outcome ⌝ }
     ensures { λ _. ⌜ now (cells .exit) ≡ recordAt (fieldsFrom (now (rows .entry)) (now (names .entry)) count 0) (now (s .entry)) at (now (cells .entry)) base .cells ⌝ }
 {
@@ -279,8 +305,18 @@ pub fn read_record(
     }
     clear(cells, base, 2 * count);
     match first_in(s, at, b'}') {
-        Next::More { at: first } => read_pairs(s, first, rows, names, count, hints, cells, base),
-        Next::Ends { at: last } => close_at(last, rows, names, count, cells, base),
+        Next::More { at: first } => read_pairs(
+            s,
+            first,
+            rows,
+            names,
+            count,
+            hints,
+            required,
+            cells,
+            base,
+        ),
+        Next::Ends { at: last } => close_at(last, rows, names, count, required, cells, base),
         Next::Neither { at: place } => Reading::Fault { kind: 11, place },
     }
 }

@@ -24,10 +24,10 @@ mul-read-record : tie.Need-mul-read-record
 mul-read-record c = omega arith
 
 mul-read-record-2 : tie.Need-mul-read-record-2
-mul-read-record-2 c = omega (arith, base-fits (c .before .before .before .before .before .before .before .before .before .before .args .r) (c .before .before .before .before .before .before .before .before .before .before .args .count) (c .before .before .if2 .left) (c .before .if3 .left))
+mul-read-record-2 c = omega (arith, base-fits (c .before .before .before .before .before .before .before .before .before .before .before .args .r) (c .before .before .before .before .before .before .before .before .before .before .before .args .count) (c .before .before .if2 .left) (c .before .if3 .left))
 
 read-record-requires : tie.Need-read-record-requires
-read-record-requires c κs = c .before .before .before .before .before .before .before .before .before .before .pre
+read-record-requires c κs = c .before .before .before .before .before .before .before .before .before .before .before .pre
 
 same-length : tie.Need-same-length
 same-length c = search needs

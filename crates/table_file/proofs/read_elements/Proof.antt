@@ -12,16 +12,16 @@ use Rattle.table_file.proofs.read_elements.Statement.{statement}
 use Rattle.table_file.proofs.read_elements.Tie as tie
 
 abbrev Inv-loop : tie.InvT-loop
-Inv-loop s from rows names count hints cells₀ at₀ r₀ cells at r = (length cells ≡ length cells₀) × Left (fieldsFrom rows names count 0) s (elementsFrom (length s) (fieldsFrom rows names count 0) s from cells₀ 0) cells at r
+Inv-loop s from rows names count hints required cells₀ at₀ r₀ cells at r = (length cells ≡ length cells₀) × Left (fieldsFrom rows names count 0) s (elementsFrom (length s) (fieldsFrom rows names count 0) s from cells₀ 0) cells at r
 
 abbrev μ-loop : tie.MeasureT-loop
-μ-loop s from rows names count hints cells₀ at₀ r₀ cells at r = length s - at
+μ-loop s from rows names count hints required cells₀ at₀ r₀ cells at r = length s - at
 
 loop-holds : tie.Need-loop-holds Inv-loop μ-loop
-loop-holds c = (refl, left-all _ _ _ _ (c .before .before .before .before .before .pre .0 .0) (c .before .before .before .before .before .pre .0 .1))
+loop-holds c = (refl, left-all _ _ _ _ (c .before .before .before .before .before .before .pre .0 .0) (c .before .before .before .before .before .before .pre .0 .1))
 
 element-at-requires : tie.Need-element-at-requires Inv-loop μ-loop
-element-at-requires c κs = c .before .before .before .before .before .before .before .pre .1
+element-at-requires c κs = c .before .before .before .before .before .before .before .before .pre .1
 
 enum-known-end : tie.Need-enum-known-end Inv-loop μ-loop
 enum-known-end c = search needs
@@ -39,7 +39,7 @@ loop-less : tie.Need-loop-less Inv-loop μ-loop
 loop-less c = omega (arith, more-place _ _ _ _ _ _ _ _ (c .before .before .before .before .before .before .before .before .before .element-at .ensures) (c .before .before .before .before .before .before .before .before .before .before .before .loop .inv .1) _ (c .before .before .before .before .before .end .given .1) _ (c .before .before .before .next-after .ensures) _ (c .before .next .given .1))
 
 loop-again : tie.Need-loop-again Inv-loop μ-loop
-loop-again c = (c .before .before .before .before .before .before .before .before .before .element-at .kept .1 .1 .1 .1 .1 .1 .0 ∙ c .before .before .before .before .before .before .before .before .before .before .before .loop .inv .0, turn-more _ _ _ _ _ _ _ _ (c .before .before .before .before .before .before .before .before .before .element-at .ensures) (c .before .before .before .before .before .before .before .before .before .before .before .loop .inv .1) _ (c .before .before .before .before .before .end .given .1) _ (c .before .before .before .next-after .ensures) _ (c .before .next .given .1))
+loop-again c = (c .before .before .before .before .before .before .before .before .before .element-at .kept .1 .1 .1 .1 .1 .1 .1 .0 ∙ c .before .before .before .before .before .before .before .before .before .before .before .loop .inv .0, turn-more _ _ _ _ _ _ _ _ (c .before .before .before .before .before .before .before .before .before .element-at .ensures) (c .before .before .before .before .before .before .before .before .before .before .before .loop .inv .1) _ (c .before .before .before .before .before .end .given .1) _ (c .before .before .before .next-after .ensures) _ (c .before .next .given .1))
 
 enum-known-last : tie.Need-enum-known-last Inv-loop μ-loop
 enum-known-last c = search needs
@@ -54,7 +54,7 @@ end-of-file-requires : tie.Need-end-of-file-requires Inv-loop μ-loop
 end-of-file-requires c κs = search needs
 
 same-length : tie.Need-same-length Inv-loop μ-loop
-same-length c = c .before .before .before .before .before .before .before .before .before .before .element-at .kept .1 .1 .1 .1 .1 .1 .0 ∙ c .before .before .before .before .before .before .before .before .before .before .before .before .loop .inv .0
+same-length c = c .before .before .before .before .before .before .before .before .before .before .element-at .kept .1 .1 .1 .1 .1 .1 .1 .0 ∙ c .before .before .before .before .before .before .before .before .before .before .before .before .loop .inv .0
 
 returns : tie.Need-returns Inv-loop μ-loop
 returns c = turn-ends _ _ _ _ _ _ _ _ (c .before .before .before .before .before .before .before .before .before .before .element-at .ensures) (c .before .before .before .before .before .before .before .before .before .before .before .before .loop .inv .1) _ (c .before .before .before .before .before .before .end .given .1) _ (c .before .before .before .before .next-after .ensures) _ _ (c .before .before .last .given .1) (c .end-of-file .ensures)
@@ -63,7 +63,7 @@ enum-known-place : tie.Need-enum-known-place Inv-loop μ-loop
 enum-known-place c = search needs
 
 same-length-2 : tie.Need-same-length-2 Inv-loop μ-loop
-same-length-2 c = c .before .before .before .before .before .before .before .before .before .element-at .kept .1 .1 .1 .1 .1 .1 .0 ∙ c .before .before .before .before .before .before .before .before .before .before .before .loop .inv .0
+same-length-2 c = c .before .before .before .before .before .before .before .before .before .element-at .kept .1 .1 .1 .1 .1 .1 .1 .0 ∙ c .before .before .before .before .before .before .before .before .before .before .before .loop .inv .0
 
 returns-2 : tie.Need-returns-2 Inv-loop μ-loop
 unfolding companionOf namesRecord within
@@ -79,7 +79,7 @@ companion-of-requires : tie.Need-companion-of-requires Inv-loop μ-loop
 companion-of-requires c κs = search needs
 
 same-length-3 : tie.Need-same-length-3 Inv-loop μ-loop
-same-length-3 c = c .before .before .before .before .before .before .element-at .kept .1 .1 .1 .1 .1 .1 .0 ∙ c .before .before .before .before .before .before .before .before .loop .inv .0
+same-length-3 c = c .before .before .before .before .before .before .element-at .kept .1 .1 .1 .1 .1 .1 .1 .0 ∙ c .before .before .before .before .before .before .before .before .loop .inv .0
 
 returns-3 : tie.Need-returns-3 Inv-loop μ-loop
 returns-3 c = turn-fault _ _ _ _ _ _ _ _ (c .before .before .before .before .before .before .element-at .ensures) (c .before .before .before .before .before .before .before .before .loop .inv .1) _ _ (c .before .before .kind .given .1) _ (c .companion-of .ensures)

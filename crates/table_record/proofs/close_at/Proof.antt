@@ -11,11 +11,11 @@ is-missing-requires c κs = search needs
 returns : tie.Need-returns
 returns c = sym (close-missing _ _ _ _ _ (c .before .is-missing .ensures) (c .if1 .taken))
 
-add-t8 : tie.Need-add-t8
-add-t8 c = search needs
+add-t9 : tie.Need-add-t9
+add-t9 c = search needs
 
 returns-2 : tie.Need-returns-2
 returns-2 c = sym (close-whole _ _ _ _ _ (c .before .is-missing .ensures) (c .if1 .left))
 
 pub close-at-spec : {M : Type 1} → statement M
-close-at-spec = tie.close (tie.spec is-missing-requires returns add-t8 returns-2)
+close-at-spec = tie.close (tie.spec is-missing-requires returns add-t9 returns-2)

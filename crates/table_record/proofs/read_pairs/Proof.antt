@@ -11,18 +11,20 @@ use Rattle.table_record.proofs.read_pairs.Statement.{statement}
 use Rattle.table_record.proofs.read_pairs.Tie as tie
 
 abbrev Inv-loop : tie.InvT-loop
-Inv-loop s from rows names count hints cells₀ base at₀ guess₀ cells at guess = (length cells ≡ length cells₀) × Left (fieldsFrom rows names count 0) s base (pairsFrom (length s) (fieldsFrom rows names count 0) s from cells₀ base) cells at
+Inv-loop s from rows names count hints required cells₀ base at₀ guess₀ cells at guess = (length cells ≡ length cells₀) × Left (fieldsFrom rows names count 0) s base (pairsFrom (length s) (fieldsFrom rows names count 0) s from cells₀ base) cells at
 
 abbrev μ-loop : tie.MeasureT-loop
-μ-loop s from rows names count hints cells₀ base at₀ guess₀ cells at guess = length s - at
+μ-loop s from rows names count hints required cells₀ base at₀ guess₀ cells at guess = length s - at
 
 loop-holds : tie.Need-loop-holds Inv-loop μ-loop
 loop-holds c =
-    let b = c .before .before .before .before .before in
+    let b = c .before .before .before .before .before .before in
     (refl, left-all _ _ _ _ _ (b .pre .0 .1 .0 .0) (b .pre .0 .1 .0 .1))
 
 pair-at-requires : tie.Need-pair-at-requires Inv-loop μ-loop
-pair-at-requires c κs = (omega (arith, c .before .before .before .before .before .before .before .pre .0, c .before .loop .inv .0, c .before .loop .inv .1 .inside), c .before .before .before .before .before .before .before .pre .1)
+pair-at-requires c κs =
+    let b = c .before .before .before .before .before .before .before .before in
+    (omega (arith, b .pre .0, c .before .loop .inv .0, c .before .loop .inv .1 .inside), b .pre .1 .0)
 
 enum-known-reading : tie.Need-enum-known-reading Inv-loop μ-loop
 enum-known-reading c = search needs
@@ -49,7 +51,10 @@ enum-known-last c = search needs
 close-at-requires : tie.Need-close-at-requires Inv-loop μ-loop
 close-at-requires c κs =
     let b = c .before .before .before .before in
-    omega (arith, b .before .before .before .before .before .before .before .before .before .before .before .before .before .before .pre .0, b .before .before .before .before .before .before .pair-at .kept .1 .1 .1 .1 .1 .1 .1 .0, b .before .before .before .before .before .before .before .before .loop .inv .0, ends-place _ _ _ _ _ _ _ _ (b .before .before .before .before .before .before .pair-at .ensures) (b .before .before .before .before .before .before .before .before .loop .inv .1) _ (b .before .before .reading .given .1) _ (b .next-after .ensures) _ (c .before .before .last .given .1))
+    let h = b .before .before .before .before .before .before .before .before .before .before .before .before .before .before .before .pre in (
+      omega (arith, h .0, b .before .before .before .before .before .before .pair-at .kept .1 .1 .1 .1 .1 .1 .1 .0, b .before .before .before .before .before .before .before .before .loop .inv .0, ends-place _ _ _ _ _ _ _ _ (b .before .before .before .before .before .before .pair-at .ensures) (b .before .before .before .before .before .before .before .before .loop .inv .1) _ (b .before .before .reading .given .1) _ (b .next-after .ensures) _ (c .before .before .last .given .1)),
+      h .1 .1,
+    )
 
 same-length : tie.Need-same-length Inv-loop μ-loop
 same-length c =

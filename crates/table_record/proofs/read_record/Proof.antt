@@ -20,7 +20,7 @@ returns : tie.Need-returns
 returns c = both _ _ (record-none _ _ _ _ _ _ _ _ (c .before .has-room .ensures) (not-true _ (c .if1 .taken)))
 
 -- what room is, at every place behind its test
-room : (c : tie.Else1) → (length (now (c .before .before .before .before .before .before .before .before .args .s)) < 2 ^ 32) × ((c .before .before .before .before .before .before .before .before .args .count ≤ 64) × (c .before .before .before .before .before .before .before .before .args .base + 2 * c .before .before .before .before .before .before .before .before .args .count ≤ length (now (c .before .before .before .before .before .before .before .before .args .cells))))
+room : (c : tie.Else1) → (length (now (c .before .before .before .before .before .before .before .before .before .args .s)) < 2 ^ 32) × ((c .before .before .before .before .before .before .before .before .before .args .count ≤ 64) × (c .before .before .before .before .before .before .before .before .before .args .base + 2 * c .before .before .before .before .before .before .before .before .before .args .count ≤ length (now (c .before .before .before .before .before .before .before .before .before .args .cells))))
 room c = room-all _ _ _ _ (sym (c .before .has-room .ensures) ∙ not-false _ (c .if1 .left))
 
 mul-clear : tie.Need-mul-clear
@@ -38,7 +38,11 @@ enum-known-first c = search needs
 read-pairs-requires : tie.Need-read-pairs-requires
 read-pairs-requires c κs =
     let b = c .before .before .before .before in
-    (omega (arith, room (b .before .before .before .before .before), b .before .before .before .clear .kept .0, first-more _ _ _ (b .first-in .ensures) _ (c .before .before .first .given .1)), b .before .before .before .before .before .before .before .before .before .before .before .before .before .pre)
+    let d = b .before .before .before .before .before in
+    let h = d .before .before .before .before .before .before .before .before .before .pre in (
+      omega (arith, room d, b .before .before .before .clear .kept .0, first-more _ _ _ (b .first-in .ensures) _ (c .before .before .first .given .1)),
+      (h .0, h .1 (room d .1 .0)),
+    )
 
 enum-known-last : tie.Need-enum-known-last
 enum-known-last c = search needs
@@ -46,13 +50,17 @@ enum-known-last c = search needs
 close-at-requires : tie.Need-close-at-requires
 close-at-requires c κs =
     let b = c .before .before .before .before in
-    omega (arith, room (b .before .before .before .before .before), b .before .before .before .clear .kept .0, first-ends _ _ _ (b .first-in .ensures) _ (c .before .before .last .given .1))
+    let d = b .before .before .before .before .before in
+    let h = d .before .before .before .before .before .before .before .before .before .pre in (
+      omega (arith, room d, b .before .before .before .clear .kept .0, first-ends _ _ _ (b .first-in .ensures) _ (c .before .before .last .given .1)),
+      h .1 (room d .1 .0),
+    )
 
 enum-known-place : tie.Need-enum-known-place
 enum-known-place c = search needs
 
 same-length-2 : tie.Need-same-length-2
-same-length-2 c = c .before .before .read-pairs .kept .1 .1 .1 .1 .1 .1 .0 ∙ c .before .before .before .before .before .before .before .before .before .before .clear .kept .0
+same-length-2 c = c .before .before .read-pairs .kept .1 .1 .1 .1 .1 .1 .1 .0 ∙ c .before .before .before .before .before .before .before .before .before .before .clear .kept .0
 
 returns-2 : tie.Need-returns-2
 returns-2 c =
