@@ -1,9 +1,6 @@
 -- For the code's sake alone: bytes of a list as one number, the first the lowest.
 use Prim.Native.Nat.{ℕ, zero, suc, _+_, _*_}
-use mathlib.Core.Bool.{Bool, cond}
 use mathlib.Core.List.{List}
-use lib.ListN.{length}
-use lib.Dec.{leb}
 use Rattle.json_bytes.specs.Reads.{byteAt}
 
 -- n bytes, from i on
@@ -11,9 +8,5 @@ unfoldable pub packedAt : ℕ → List ℕ → ℕ → ℕ
 packedAt zero s i = 0
 packedAt (suc n) s i = packedAt n s (i + 1) * 256 + byteAt s i
 
-unfoldable pub hasEight : List ℕ → ℕ → Bool
-hasEight s i = leb (i + 8) (length s)
-
--- eight, and 0 where there are fewer
 unfoldable pub eightAt : List ℕ → ℕ → ℕ
-eightAt s i = cond (hasEight s i) (packedAt 8 s i) 0
+eightAt s i = packedAt 8 s i

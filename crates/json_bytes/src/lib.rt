@@ -3,7 +3,7 @@
 ghost use mathlib.Core.Path.{_≡_};
 ghost use Prim.Native.Nat.{_+_, _≤_, _<_};
 ghost use lib.ListN.{length};
-ghost use Rattle.json_bytes.specs.Eight.{packedAt, hasEight, eightAt};
+ghost use Rattle.json_bytes.specs.Eight.{packedAt, eightAt};
 ghost use Rattle.json_bytes.specs.Reads.{byteAt, within, isSpace, spacesEnd, literalAt, spelledAt};
 
 // What reading a token gives: the place behind it, or the kind and place of its fault.
@@ -35,25 +35,13 @@ fn four_at(s: &[u8], i: usize) -> u64
     wide(s[i]) + wide(s[i + 1]) * 256 + wide(s[i + 2]) * 65536 + wide(s[i + 3]) * 16777216
 }
 
-// Whether eight bytes stand from i on.
-pub fn has_eight(s: &[u8], i: usize) -> bool
-    ensures { λ r. ⌜ r ≡ hasEight (now (s .entry)) i ⌝ }
-{
-    if s.len() < 8 {
-        return false;
-    }
-    i <= s.len() - 8
-}
-
-// Eight bytes from i on as one number, the first the lowest; 0 where there are fewer. Read so, they are one load, and
-// where has_eight was tested before, it is not tested again.
+// Eight of them, from i on, as one number. Read so, they are one load. That they are there is the caller's to know: a test
+// here would be made again in each turn of the loops that go by eights.
 pub fn eight_at(s: &[u8], i: usize) -> u64
+    requires { ⌜ i + 8 ≤ length (now s) ⌝ }
     ensures { λ r. ⌜ r ≡ eightAt (now (s .entry)) i ⌝ }
 {
-    if has_eight(s, i) {
-        return four_at(s, i) + four_at(s, i + 4) * 4294967296;
-    }
-    0
+    four_at(s, i) + four_at(s, i + 4) * 4294967296
 }
 
 // ---- The simplest tests and readers

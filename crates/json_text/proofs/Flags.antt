@@ -14,9 +14,9 @@ use lib.Count.{trailingZeros, trailing-le}
 use lib.ListN.{length}
 use lib.Dec.{eqb, lit<}
 use Rattle.json_bytes.specs.Reads.{byteAt, within}
-use Rattle.json_bytes.specs.Eight.{packedAt, hasEight, eightAt}
+use Rattle.json_bytes.specs.Eight.{packedAt, eightAt}
 use Rattle.json_bytes.proofs.Laws.{both-left, both-right, run-more, run-stops}
-use Rattle.json_bytes.proofs.Eight.{Bytes, room, eight-there}
+use Rattle.json_bytes.proofs.Eight.{Bytes}
 use Rattle.json_text.specs.Run.{isGraphic, runEnd}
 use Rattle.json_text.specs.Eight.{eachByte, oddFlag, oddBytes, firstByte}
 
@@ -211,17 +211,17 @@ module _ (s : List ℕ) (fs : Bytes s) where
       go false q rest = rw (flags-set n i q, at-flag n (flags n (i + 1)), add-zero i) (sym (run-stops isGraphic s i (omega arith) q))
 
   -- ---- as the code has them
-  module _ (j odd : ℕ) (has : hasEight s j ≡ true) (are : odd ≡ oddBytes (eightAt s j)) where
+  module _ (j odd : ℕ) (has : j + 8 ≤ length s) (are : odd ≡ oddBytes (eightAt s j)) where
     told : odd ≡ flags 8 j
-    unfolding oddBytes
-    told = are ∙ ap oddBytes (eight-there s j has)
+    unfolding oddBytes eightAt
+    told = are
 
     pub eight-pass : odd ≡ 0 → runEnd s j ≡ runEnd s (j + 8)
-    eight-pass e = run-passes 8 j (room s j has) (sym told ∙ e)
+    eight-pass e = run-passes 8 j has (sym told ∙ e)
 
     pub eight-meet : (odd ≡ 0 → ⊥) → (r : ℕ) → r ≡ firstByte odd → j + r ≡ runEnd s j
     unfolding firstByte
-    eight-meet h r is = rw (is, told) (run-meets 8 j (room s j has) (λ e. h (told ∙ e)))
+    eight-meet h r is = rw (is, told) (run-meets 8 j has (λ e. h (told ∙ e)))
 
 pub first-bound : (x : ℕ) → firstByte x ≤ 8
 unfolding firstByte

@@ -9,7 +9,6 @@ ghost use Rattle.json_text.specs.Escape.{PlainEscape};
 use json_bytes::Reading;
 use json_bytes::byte_at;
 use json_bytes::eight_at;
-use json_bytes::has_eight;
 use json_bytes::is_within;
 use json_chars::Step;
 use json_chars::step_at;
@@ -231,8 +230,11 @@ fn first_byte(x: u64) -> usize
 pub fn run_end(s: &[u8], i: usize) -> usize
     ensures { λ r. ⌜ r ≡ runEnd (now (s .entry)) i ⌝ }
 {
+    if s.len() <= i {
+        return i;
+    }
     let mut j = i;
-    while has_eight(s, j) {
+    while j + 8 <= s.len() {
         let odd = odd_bytes(eight_at(s, j));
         if odd != 0 {
             return j + first_byte(odd);

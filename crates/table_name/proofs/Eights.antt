@@ -41,7 +41,7 @@ module _ (a b : List ℕ) where
         go false q =
             let n : j ≤ k = ltb-false k j q in
             let p : j + (k - j) ≡ k = omega arith in
-            rw p at (eight-alike a b fa fb j r (omega arith) e (k - j) (omega arith))
+            rw p at (eight-alike a b fa fb j e (k - j) (omega arith))
 
     -- the last eight decide it
     pub eights-told : (i : ℕ) → j + 8 ≡ length a → j ≤ i → Alike a b i → {x y : ℕ} → x ≡ eightAt a j → y ≡ eightAt b j → eqb x y ≡ sameList a b

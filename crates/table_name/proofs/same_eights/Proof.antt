@@ -21,10 +21,10 @@ loop-holds : tie.Need-loop-holds Inv-loop μ-loop
 loop-holds c k l = absurd (not-suc-le-zero l)
 
 eight-at-requires : tie.Need-eight-at-requires Inv-loop μ-loop
-eight-at-requires c κs = search needs
+eight-at-requires c κs = omega arith
 
 eight-at-requires-2 : tie.Need-eight-at-requires-2 Inv-loop μ-loop
-eight-at-requires-2 c κs = search needs
+eight-at-requires-2 c κs = omega arith
 
 returns : tie.Need-returns Inv-loop μ-loop
 returns c = sym (eights-differ _ _ _ (λ e. c .if1 .taken (c .before .before .eight-at .ensures ∙ e ∙ sym (c .before .eight-at2 .ensures))))
@@ -39,10 +39,10 @@ loop-again : tie.Need-loop-again Inv-loop μ-loop
 loop-again c = alike-more _ _ (c .before .before .before .before .before .before .shared-slice-known .given) (c .before .before .before .before .before .shared-slice-known2 .given) (c .before .before .before .before .before .before .before .pre .1) _ (omega arith) (sym (c .before .before .eight-at .ensures) ∙ c .if1 .left ∙ c .before .eight-at2 .ensures) _ (omega arith) (c .before .before .before .before .loop .inv)
 
 eight-at-requires-3 : tie.Need-eight-at-requires-3 Inv-loop μ-loop
-eight-at-requires-3 c κs = search needs
+eight-at-requires-3 c κs = omega arith
 
 eight-at-requires-4 : tie.Need-eight-at-requires-4 Inv-loop μ-loop
-eight-at-requires-4 c κs = search needs
+eight-at-requires-4 c κs = omega arith
 
 returns-2 : tie.Need-returns-2 Inv-loop μ-loop
 returns-2 c = eights-told _ _ (c .before .before .before .before .before .shared-slice-known .given) (c .before .before .before .before .shared-slice-known2 .given) (c .before .before .before .before .before .before .pre .1) _ (omega arith) _ (omega arith) (c .before .before .loop-test .left) (c .before .before .before .loop .inv) (c .before .eight-at3 .ensures) (c .eight-at4 .ensures)
