@@ -8,14 +8,13 @@
 // dearest way: the target records are put in order, and the value is looked up there, as are all behind it.
 ghost use mathlib.Core.Path.{_≡_};
 ghost use mathlib.Core.Bool.{true, false, not, cond, _&&_};
-ghost use Prim.Native.Nat.{_+_, _-_, _*_, _%_, _≤_, _<_};
+ghost use Prim.Native.Nat.{_+_, _-_, _*_, _≤_, _<_};
 ghost use lib.ListN.{length, drop};
 ghost use lib.Dec.{ltb, eqb};
 ghost use Rattle.json_bytes.specs.Reads.{byteAt};
 ghost use Rattle.json_chars.specs.Chars.{charsAt};
 ghost use Rattle.json_same.specs.Same.{sameAs};
 ghost use Rattle.json_same.specs.declared.Case.the-variants.{Folded};
-ghost use Rattle.key_sum.specs.Sum.{keySum};
 ghost use Rattle.rule_cells.specs.Cells.{table, startOf, textOf, isGiven, firstFrom};
 ghost use Rattle.rule_when.specs.When.{holdsWhen};
 ghost use Rattle.rule_target.specs.Target.{targetOf, breaksTarget, targetRule};
@@ -23,6 +22,9 @@ ghost use Rattle.key_order.specs.Order.{sumsOf, inKeyOrder, areFit};
 ghost use Rattle.key_lookup.specs.Lookup.{keyOf, isFound};
 ghost use Rattle.ordered_target.specs.Found.{oneText};
 use json_bytes::byte_at;
+use json_bytes::eight_at;
+use json_chars::Step;
+use json_chars::step_at;
 use json_same::Case;
 use json_same::same_text;
 use json_text::plain_end;
@@ -30,6 +32,7 @@ use key_lookup::Lookup;
 use key_lookup::key_of;
 use key_lookup::place_of;
 use key_order::key_order;
+use key_sum::beginning_of;
 use key_sum::key_sum;
 use parts::part;
 use rule_cells::is_given;
@@ -312,12 +315,82 @@ fn look_up(
     }
 }
 
-// The first of the 32 slots in which the text at `at` may stand. It is one of 8,192, twice as many as a table has
-// records, and a list of slots has 32 more, for those that begin at the last.
-fn home_of(s: &[u8], at: usize) -> usize
-    ensures { λ x. ⌜ x ≡ keySum (now (s .entry)) at % 8192 ⌝ }
+// ---- Slots
+// Nothing is stated of a slot but that there is one of its number: where a text stands matters to no answer.
+
+// Whether the value from `at` up to `end` has one to eight bytes between its quotes, with no backslash among the eight
+// bytes before the closing quote and none from 80 on: then these bytes are its characters.
+fn is_short(s: &[u8], at: usize, end: usize) -> bool
+    ensures { λ x. ⌜ (x ≡ true → (at + 3 ≤ end) × (9 ≤ end) × (end ≤ length (now (s .entry)))) ⌝ }
 {
+    if end < 9 {
+        return false;
+    }
+    if s.len() < end {
+        return false;
+    }
+    if end - 3 < at {
+        return false;
+    }
+    if 10 < end - at {
+        return false;
+    }
+    let x = eight_at(s, end - 9);
+    let other = std::num::wrapping_add_u64(x ^ 0x5c5c5c5c5c5c5c5c, 0x7f7f7f7f7f7f7f7f);
+    (other & (x ^ 0x8080808080808080)) & 0x8080808080808080 == 0x8080808080808080
+}
+
+// A slot for up to eight characters, one byte each. The bit in which letters of either case differ is set in all, since IDs
+// are the same in either; the two products spread what is left.
+fn slot_of(x: u64) -> usize
+    ensures { λ r. ⌜ r < 8192 ⌝ }
+{
+    let y = x | 0x2020202020202020;
+    let low = y % 4294967296 * 2654435769;
+    let high = y / 4294967296 % 4294967296 * 2246822519;
+    ((low ^ high) / 65536 % 8192) as usize
+}
+
+// The last n of the eight bytes of a number, which are its highest.
+fn last_of(x: u64, n: usize) -> u64 {
+    if 8 <= n {
+        return x;
+    }
+    x >> ((8 - n) * 8 % 64)
+}
+
+// The slot of a text, character by character: of up to eight the one that they have where they are written plainly, and of
+// more one by their sum.
+fn decoded_slot(s: &[u8], at: usize) -> usize
+    ensures { λ r. ⌜ r < 8192 ⌝ }
+{
+    let mut x: u64 = 0;
+    let mut i = beginning_of(s, at);
+    let mut n: usize = 0;
+    while n < 8 {
+        let Step::Char { code, next } = step_at(s, i) else {
+            return slot_of(last_of(x, n));
+        };
+        x = x / 256 % 72057594037927936 + (code % 256) as u64 * 72057594037927936;
+        i = next;
+        n += 1;
+    }
+    let Step::Char { code: _, next: _ } = step_at(s, i) else {
+        return slot_of(x);
+    };
     (key_sum(s, at) % 8192) as usize
+}
+
+// The first of the 32 slots in which the text from `at` up to `end` may stand. It is one of 8,192, twice as many as a table
+// has records, and a list of slots has 32 more, for those that begin at the last. Most IDs are short and plain, and are
+// read at once.
+fn home_of(s: &[u8], at: usize, end: usize) -> usize
+    ensures { λ x. ⌜ x < 8192 ⌝ }
+{
+    if is_short(s, at, end) {
+        return slot_of(last_of(eight_at(s, end - 9), end - at - 2));
+    }
+    decoded_slot(s, at)
 }
 
 // Puts a number into the first of 32 slots that is free. Where none is, it is left out, and the slots don't find its
@@ -354,7 +427,8 @@ fn fill_slots(
 {
     let mut q = 0;
     while q < u_records {
-        let home = home_of(u, start_of(u_cells, u_width, q, m));
+        let start = start_of(u_cells, u_width, q, m);
+        let home = home_of(u, start, end_of(u_cells, u_width, q, m));
         q += 1;
         put_slot(slots, home, q as u16);
     }
@@ -370,6 +444,7 @@ fn wide(x: u16) -> usize
 fn guess_slot(
     s: &[u8],
     at: usize,
+    till: usize,
     u: &[u8],
     u_cells: &[u32],
     u_width: usize,
@@ -383,7 +458,7 @@ fn guess_slot(
         found: false,
         record: 0,
     };
-    let home = home_of(s, at);
+    let home = home_of(s, at, till);
     let end = home + 32;
     let mut i = home;
     while i < end {
@@ -448,7 +523,7 @@ fn find_record(
             return look_up(s, at, u, u_cells, u_width, t.m, sums, order);
         }
         if 0 < slots.len() {
-            return guess_slot(s, at, u, u_cells, u_width, u_records, t.m, slots);
+            return guess_slot(s, at, end, u, u_cells, u_width, u_records, t.m, slots);
         }
         return guess_around(s, at, tail, u, u_cells, u_width, u_records, t.m, near);
     }

@@ -19,6 +19,9 @@ loop-holds c = refl
 start-of-requires : tie.Need-start-of-requires Inv-loop μ-loop
 start-of-requires c κs = search needs
 
+end-of-requires : tie.Need-end-of-requires Inv-loop μ-loop
+end-of-requires c κs = search needs
+
 home-of-requires : tie.Need-home-of-requires Inv-loop μ-loop
 home-of-requires c κs = search needs
 
@@ -51,6 +54,7 @@ fill-slots-spec =
     μ-loop
     loop-holds
     start-of-requires
+    end-of-requires
     home-of-requires
     add-q
     cast-put-slot

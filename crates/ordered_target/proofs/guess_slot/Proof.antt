@@ -8,10 +8,10 @@ use Rattle.ordered_target.proofs.guess_slot.Statement.{statement}
 use Rattle.ordered_target.proofs.guess_slot.Tie as tie
 
 abbrev Inv-loop : tie.InvT-loop
-Inv-loop s at u u-cells u-width u-records m slots none home end i₀ i = i ≤ end
+Inv-loop s at till u u-cells u-width u-records m slots none home end i₀ i = i ≤ end
 
 abbrev μ-loop : tie.MeasureT-loop
-μ-loop s at u u-cells u-width u-records m slots none home end i₀ i = end - i
+μ-loop s at till u u-cells u-width u-records m slots none home end i₀ i = end - i
 
 home-of-requires : tie.Need-home-of-requires Inv-loop μ-loop
 home-of-requires c κs = search needs
