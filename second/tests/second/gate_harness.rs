@@ -11,7 +11,7 @@ use second::compare::run::Question;
 use second::gate::{judge, make_change};
 
 /// Of cases and answers together.
-const MOST_BYTES: usize = 420_000_000;
+const MOST_BYTES: usize = 440_000_000;
 const LARGE: usize = 500_000;
 const MOST_LARGE: usize = 70;
 

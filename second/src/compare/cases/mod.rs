@@ -25,6 +25,10 @@ pub fn all_cases(seed: u64) -> Vec<Case> {
     dates::add(&mut cases);
     numbers::add(&mut cases);
     mixed::add(&mut cases);
+    // These came later and stand behind the others, which so keep their places and random numbers.
+    strings::add_eights(&mut cases);
+    strings::add_two_digit_escapes(&mut cases);
+    dates::add_ten_bytes(&mut cases);
     cases.list
 }
 
@@ -64,6 +68,12 @@ impl Cases {
         for kind in 0..3 {
             self.push(super::case::TEXT, at, kind, a, &[]);
         }
+    }
+
+    /// A string by the text kind whose turn it is.
+    fn text_in_turn(&mut self, at: usize, a: &[u8]) {
+        let kind = self.list.len() % 3;
+        self.push(super::case::TEXT, at, kind, a, &[]);
     }
 
     /// A string by one of the text kinds.

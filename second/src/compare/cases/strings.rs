@@ -1,6 +1,8 @@
 //! Strings as written: cut at each length, odd bytes at each place, escapes
 //! and surrogates.
 
+use std::collections::BTreeSet;
+
 use super::{inserted, joined, quoted, removed, replaced, written, Cases, ODD_BYTES, STYLES};
 use crate::compare::case::{CHARACTER, LONGEST, TEXT};
 
@@ -192,6 +194,11 @@ fn add_long_strings(cases: &mut Cases) {
     cases.text_by_each_kind(0, &last_broken);
 }
 
+/// A run of so many plain bytes.
+fn letters(length: usize) -> Vec<u8> {
+    b"Quay-wall_7".iter().copied().cycle().take(length).collect()
+}
+
 /// Runs of letters of several lengths, and at each of their places the bytes at
 /// which such a run may end, or just not: by themselves and before a closing
 /// quote; and the file's end at each place.
@@ -199,7 +206,7 @@ fn add_plain_runs(cases: &mut Cases) {
     const ENDS: [u8; 15] =
         [0x1F, 0x20, 0x21, 0x22, 0x23, 0x5B, 0x5C, 0x5D, 0x7E, 0x7F, 0x80, 0xBF, 0xC2, 0xE2, 0xFF];
     for length in [1, 2, 3, 7, 8, 9, 15, 16, 17, 33] {
-        let run = quoted(&b"Quay-wall_7".iter().copied().cycle().take(length).collect::<Vec<u8>>());
+        let run = quoted(&letters(length));
         for at in 0..=run.len() {
             cases.text_by_some_kind(0, &run[..at]);
             for byte in ENDS {
@@ -214,6 +221,176 @@ fn add_plain_runs(cases: &mut Cases) {
             for character in ["\\\\", "\\u0041", "\\u0020", "é", "\u{1F600}"] {
                 let written = joined(&[&run[..at], character.as_bytes(), &run[at..]]);
                 cases.text_by_each_kind(0, &written);
+            }
+        }
+    }
+}
+
+// ---------------------------------------------------- eight bytes at once
+
+/// The bytes at which a run of plain ones ends, those beside them, and those
+/// that are one of them but for the highest bit.
+const EDGES: [u8; 15] =
+    [0x00, 0x1F, 0x20, 0x21, 0x22, 0x23, 0x5B, 0x5C, 0x5D, 0x7E, 0x7F, 0x80, 0xA2, 0xA3, 0xFF];
+
+/// The longest run is of three times eight bytes.
+const LONGEST_RUN: usize = 24;
+
+/// Plain bytes may be passed over eight at a time, and others only one by one.
+pub(super) fn add_eights(cases: &mut Cases) {
+    for length in 0..=LONGEST_RUN {
+        for before in 0..=8 {
+            add_ended_run(cases, length, before);
+        }
+    }
+    add_each_byte_in_a_run(cases);
+    add_two_edges(cases);
+}
+
+/// A run of that length, ended by the file, by the closing quote, by an edge or
+/// by an escape: behind so many other bytes with no more than a quote behind it,
+/// or behind so many letters and an escape, with more than eight bytes behind it
+/// or none.
+fn add_ended_run(cases: &mut Cases, length: usize, before: usize) {
+    let run = letters(length);
+    let opened = joined(&[&vec![b'['; before], b"\"", &run]);
+    let further = joined(&[b"\"", &letters(before), b"\\/", &run]);
+    cases.text_by_each_kind(before, &opened);
+    cases.text_by_each_kind(before, &joined(&[&opened, b"\""]));
+    let edges = EDGES.iter().map(|edge| vec![*edge]);
+    let escapes = [b"\\/".to_vec(), b"\\u006b".to_vec()];
+    for end in edges.chain(escapes) {
+        cases.text_by_each_kind(before, &joined(&[&opened, &end, b"\""]));
+        cases.text_in_turn(0, &joined(&[&further, &end, b"mooring_9\",\"Name\":1"]));
+        cases.text_in_turn(0, &joined(&[&further, &end]));
+    }
+}
+
+/// Every byte in the first eight, in the second, and right behind them; the file
+/// ends with the string, or it goes on.
+fn add_each_byte_in_a_run(cases: &mut Cases) {
+    let run = quoted(&letters(20));
+    for byte in 0..=255 {
+        for at in 0..17 {
+            let changed = replaced(&run, 1 + at, byte);
+            let more: &[u8] = if (at + byte as usize) % 2 == 0 { b"" } else { b",\"Name\":1}" };
+            cases.text_in_turn(0, &joined(&[&changed, more]));
+        }
+    }
+}
+
+/// Two edges side by side in the first eight, or the second one behind them;
+/// also behind the first byte of a character of two.
+fn add_two_edges(cases: &mut Cases) {
+    let run = quoted(&letters(20));
+    for first in EDGES.into_iter().chain([0xC2]) {
+        for second in EDGES.into_iter().chain([0xC2]) {
+            for at in 1..=8 {
+                let changed = replaced(&replaced(&run, at, first), at + 1, second);
+                cases.text_in_turn(0, &changed);
+            }
+        }
+    }
+}
+
+// ------------------------------------------------- escapes of two digits
+
+/// An escape for a plain character may be passed over at once where its digits
+/// are in lower case. Each code of two digits in each case of these, at each
+/// place of a short string; cut off by the file's end; and one such escape with
+/// each byte at each of its places.
+pub(super) fn add_two_digit_escapes(cases: &mut Cases) {
+    let escapes: Vec<Vec<u8>> = (0..=0xFF).flat_map(spellings).collect();
+    for escape in &escapes {
+        add_placed_escape(cases, escape);
+    }
+    let cut: BTreeSet<&[u8]> = escapes
+        .iter()
+        .flat_map(|escape| (1..=escape.len()).map(|length| &escape[..length]))
+        .collect();
+    for front in cut {
+        cases.text_by_each_kind(0, &joined(&[b"\"", front]));
+        cases.text_in_turn(0, &joined(&[b"\"Quay", front]));
+    }
+    let string = br#""a\u006bz""#;
+    for at in 2..8 {
+        for byte in 0..=255 {
+            cases.text_in_turn(0, &replaced(string, at, byte));
+        }
+    }
+}
+
+/// The escape of a code of two digits, each of them in lower and in upper case.
+fn spellings(code: u32) -> BTreeSet<Vec<u8>> {
+    let [high, low] =
+        [code / 16, code % 16].map(|digit| [format!("{digit:x}"), format!("{digit:X}")]);
+    let pairs = high.iter().flat_map(|high| low.iter().map(move |low| (high, low)));
+    pairs.map(|(high, low)| format!("\\u00{high}{low}").into_bytes()).collect()
+}
+
+/// Alone, first, last, between letters, before and behind a space, and twice.
+fn add_placed_escape(cases: &mut Cases, escape: &[u8]) {
+    let placed: [&[&[u8]]; 7] = [
+        &[escape],
+        &[escape, b"b"],
+        &[b"a", escape],
+        &[b"a", escape, b"b"],
+        &[b"a", escape, b" b"],
+        &[b"a ", escape, b"b"],
+        &[escape, escape],
+    ];
+    for parts in placed {
+        cases.text_by_each_kind(0, &quoted(&joined(parts)));
+    }
+}
+
+#[cfg(test)]
+mod tests {
+    use super::*;
+    use crate::compare::answer::answer;
+    use crate::compare::case::Answer;
+    use crate::compare::random::Random;
+    use crate::json::decoded_codes;
+
+    /// The answers to the cases that are added so, each with its text kind.
+    fn answers(add: fn(&mut Cases)) -> Vec<(u32, Answer)> {
+        let mut cases = Cases { list: Vec::new(), random: Random::new(1) };
+        add(&mut cases);
+        cases.list.iter().map(|case| (case.other, answer(case))).collect()
+    }
+
+    /// Strings that hold are of each length; faults of both kinds and wrong
+    /// characters are at each place.
+    #[test]
+    fn runs_end_at_each_place() {
+        let answers = answers(add_eights);
+        let ends: BTreeSet<u64> =
+            answers.iter().filter(|(_, a)| a[0] == 0 && a[2] == 0).map(|(_, a)| a[1]).collect();
+        assert!((2..=40).all(|end| ends.contains(&end)));
+        for kind in [10, 11] {
+            let places: BTreeSet<u64> = answers
+                .iter()
+                .filter(|(_, a)| a[0] == 1 && a[1] == kind)
+                .map(|(_, a)| a[2])
+                .collect();
+            assert!((1..=33).all(|place| places.contains(&place)), "kind {kind}");
+        }
+        for (text_kind, rule) in [(0, 1), (1, 1), (2, 1), (1, 2), (2, 2)] {
+            let is_broken =
+                |(of, a): &&(u32, Answer)| *of == text_kind && a[0] == 0 && a[2] == rule;
+            let places: BTreeSet<u64> =
+                answers.iter().filter(is_broken).map(|(_, a)| a[3]).collect();
+            assert!((1..=33).all(|place| places.contains(&place)), "rule {rule} of {text_kind}");
+        }
+    }
+
+    #[test]
+    fn an_escape_has_as_many_spellings_as_its_letters_have() {
+        let counts = [0x41, 0x4A, 0xA4, 0xAB].map(|code| spellings(code).len());
+        assert_eq!(counts, [1, 2, 2, 4]);
+        for code in 0..=0xFF {
+            for escape in spellings(code) {
+                assert_eq!(decoded_codes(&quoted(&escape), 0), [code]);
             }
         }
     }

@@ -5,7 +5,7 @@ use std::sync::Arc;
 
 use super::{change, random_board, Cases};
 use crate::compare::gate::set_draft::SetDraft;
-use crate::compare::tables::cases::all_cases;
+use crate::compare::tables::cases::drawn_cases;
 
 /// The comparison of readings has the long ones; here they only take time.
 const LONGEST_FILE: usize = 1500;
@@ -13,7 +13,7 @@ const JUDGED: usize = 6_000;
 const CHANGED: usize = 2_000;
 
 pub(super) fn add(cases: &mut Cases) {
-    let mut files = all_cases(cases.random.next_number());
+    let mut files = drawn_cases(cases.random.next_number());
     files.retain(|case| case.contents.as_ref().is_none_or(|bytes| bytes.len() <= LONGEST_FILE));
     for _ in 0..JUDGED {
         let file = &files[cases.random.below(files.len())];

@@ -184,12 +184,12 @@ fn asking_set(link: &Link, count: usize) -> SetDraft {
     SetDraft::empty().with_records(link.file, &asking)
 }
 
-fn searched_record(link: &Link, number: usize) -> Draft {
+pub(super) fn searched_record(link: &Link, number: usize) -> Draft {
     short_record(link.other, number).with_value(link.other_field, &quoted(&id(number)))
 }
 
 /// Its type is the one that makes a task ask for a place in the outline.
-fn asking_record(link: &Link, number: usize) -> Draft {
+pub(super) fn asking_record(link: &Link, number: usize) -> Draft {
     let record = short_record(link.file, number).with_value(link.field, &quoted(&id(number)));
     match link.file {
         9 => record.with_value("TaskTypeID", b"\"SUMMARY\""),

@@ -70,6 +70,9 @@ pub fn all_cases(seed: u64) -> Vec<GateCase> {
     long::add_all_mixed_targets(&mut cases);
     one_sum::add_all_pairs(&mut cases);
     long::add_all_copies(&mut cases);
+    keys::add_all_groups(&mut cases);
+    enumerations::add_all_neighbours(&mut cases);
+    targets::add_all_lengths(&mut cases);
     cases.list
 }
 

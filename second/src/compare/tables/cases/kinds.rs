@@ -198,3 +198,95 @@ fn add_faults_across_the_end(cases: &mut Cases, table: usize) {
         cases.file(table, &joined(&[&lacking, inner, closing(table)]));
     }
 }
+
+// ------------------------------------------------- fields that are missing
+
+/// What a record lacks may be told from all its fields at once.
+pub(super) fn add_all_missing(cases: &mut Cases) {
+    for table in tables() {
+        let required: Vec<&Field> = fields_of(table).filter(|field| !field.nullable).collect();
+        for (index, field) in required.iter().enumerate() {
+            add_missing_beside_full(cases, field);
+            for other in &required[index + 1..] {
+                add_two_missing(cases, field, other);
+            }
+        }
+    }
+}
+
+/// A record of few fields, and one of all where that is another.
+fn few_and_all(table: usize) -> Vec<Draft> {
+    let mut drafts = vec![Draft::least(table, 0), Draft::full(table, 0)];
+    drafts.dedup_by_key(|draft| draft.members.len());
+    drafts
+}
+
+/// The field is absent, null or empty.
+fn lacking(draft: &Draft, field: &Field) -> Vec<Draft> {
+    let mut drafts = vec![draft.without(field.name), draft.with_value(field.name, b"null")];
+    if may_be_empty(field.kind) {
+        drafts.push(draft.with_value(field.name, b"\"\""));
+    }
+    drafts
+}
+
+/// One record lacks the field, and the one behind or before it has every field;
+/// the names of the lacking one stand in the table's order or in reverse.
+fn add_missing_beside_full(cases: &mut Cases, field: &Field) {
+    let table = field.table;
+    let other = Draft::full(table, 1);
+    for draft in few_and_all(table) {
+        for mut lacking in lacking(&draft, field) {
+            cases.records(table, &[lacking.clone(), other.clone()]);
+            lacking.members.reverse();
+            cases.records(table, &[lacking.clone(), other.clone()]);
+            if record_places(table) > 1 {
+                cases.records(table, &[other.clone(), lacking.clone()]);
+                lacking.members.reverse();
+                cases.records(table, &[other.clone(), lacking]);
+            }
+        }
+    }
+}
+
+/// Two fields are missing at once, each absent or null, in the first and in the
+/// second record, with few of the others or all.
+fn add_two_missing(cases: &mut Cases, field: &Field, other: &Field) {
+    let table = field.table;
+    for draft in few_and_all(table) {
+        let null = draft.with_value(field.name, b"null");
+        let drafts = [
+            draft.without(field.name).without(other.name),
+            draft.without(field.name).with_value(other.name, b"null"),
+            null.without(other.name),
+            null.with_value(other.name, b"null"),
+        ];
+        for lacking in drafts {
+            for at in 0..record_places(table).min(2) {
+                cases.among_others(table, &lacking, at);
+            }
+        }
+    }
+}
+
+#[cfg(test)]
+mod tests {
+    use super::*;
+    use crate::compare::random::Random;
+    use crate::compare::tables::case::TableCase;
+    use crate::table::read_file;
+
+    /// What is missing is the only fault of these files.
+    #[test]
+    fn each_lacks_a_value() {
+        let mut cases = Cases { list: Vec::new(), random: Random::new(1) };
+        add_all_missing(&mut cases);
+        for TableCase { number, contents } in &cases.list {
+            let mark = read_file(*number as usize, contents.as_deref()).unwrap_err();
+            assert_eq!(mark.kind, 19, "{}", String::from_utf8_lossy(contents.as_deref().unwrap()));
+        }
+        let is_of_table = |case: &&TableCase| case.number == 19;
+        // Two fields: each absent, null and empty, and one pair of them.
+        assert_eq!(cases.list.iter().filter(is_of_table).count(), 2 * 2 * 3 * 4 + 2 * 4 * 2);
+    }
+}

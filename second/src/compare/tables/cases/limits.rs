@@ -1,7 +1,7 @@
 //! Both sides of the limits of numbers, dates and strings.
 
-use super::draft::{quoted, Draft};
-use super::{joined, Cases};
+use super::draft::{quoted, unclosed, Draft};
+use super::{joined, replaced, Cases};
 use crate::compare::padded::{padded, padded_forms, SIGNIFICANDS, ZEROS};
 use crate::compare::white_space::{
     placed, white_in_low_bits, writings, BESIDE, UNLISTED, WHITE_SPACE,
@@ -229,6 +229,33 @@ fn add_wrong_dates(cases: &mut Cases) {
         cases.date(&format!("{front}{back}"));
         for other in ["/", ":", "-", "0", "9", "A", " ", "\u{e9}", "\\t", "\\u0130"] {
             cases.date(&format!("{front}{other}{back}"));
+        }
+    }
+}
+
+/// A date may be taken from its ten bytes as they stand. Each of them, and each
+/// quote, is one on either side of the digits or means something else within a
+/// string; one digit is an escape; and the file ends within the date.
+pub(super) fn add_dates_by_bytes(cases: &mut Cases) {
+    for (table, name) in DATE_SPOTS {
+        for date in ["0001-01-01", "1999-12-31", "2024-02-29"] {
+            let date = quoted(date);
+            for at in 0..date.len() {
+                for byte in [b'/', b'0', b'9', b':', b'-', b'"', b'\\', 0x80] {
+                    cases.value((table, name), &replaced(&date, at, byte));
+                }
+            }
+            for at in 1..date.len() - 1 {
+                for escape in [format!("\\u{:04x}", date[at]), format!("\\u{:04X}", date[at])] {
+                    let (front, back) = (&date[..at], &date[at + 1..]);
+                    cases.value((table, name), &joined(&[front, escape.as_bytes(), back]));
+                }
+            }
+            let draft = Draft::least(table, 0).without(name).with_value(name, &date);
+            let whole = unclosed(table, &draft);
+            for missing in 0..=date.len() {
+                cases.file(table, &whole[..whole.len() - missing]);
+            }
         }
     }
 }

@@ -22,6 +22,20 @@ use crate::table::is_singleton;
 
 /// The same seed always gives the same cases in the same order.
 pub fn all_cases(seed: u64) -> Vec<TableCase> {
+    let mut cases = first_cases(seed);
+    // These came later and stand behind the others, which so keep their places and random numbers.
+    kinds::add_all_missing(&mut cases);
+    limits::add_dates_by_bytes(&mut cases);
+    cases.list
+}
+
+/// Those that the gate's cases are drawn from. Draws go by how many there are, so
+/// what comes later is not among them.
+pub(in crate::compare) fn drawn_cases(seed: u64) -> Vec<TableCase> {
+    first_cases(seed).list
+}
+
+fn first_cases(seed: u64) -> Cases {
     let mut cases = Cases { list: Vec::new(), random: Random::new(seed) };
     whole::add(&mut cases);
     accepted::add(&mut cases);
@@ -34,7 +48,7 @@ pub fn all_cases(seed: u64) -> Vec<TableCase> {
     damage::add(&mut cases);
     large::add(&mut cases);
     mixed::add(&mut cases);
-    cases.list
+    cases
 }
 
 /// The cases gathered so far, and the numbers to vary them with.
