@@ -88,6 +88,9 @@ module _ (t : Table) (k : ℕ) (w : When) (u : Table) (m : ℕ) (places texts : 
   pub unasked-holds : asked ≡ false → breaksTarget t k w u m places texts r ≡ false
   unasked-holds e = breaks-asked ∙ rw e
 
+  pub ungiven-holds : isGiven (t .cells) (t .width) r k ≡ false → breaksTarget t k w u m places texts r ≡ false
+  ungiven-holds e = unasked-holds (rw e)
+
   -- the value stands where its cell says
   module _ (at : ℕ) (is : at ≡ startOf (t .cells) (t .width) r k) where
     pub target-holds : eqb (targetOf (charsAt (t .bytes) at) u m) 0 ≡ false → breaksTarget t k w u m places texts r ≡ false

@@ -481,8 +481,8 @@ fn guess_slot(
     none
 }
 
-// Whether record r is seen to hold: its target is not asked for, or it is guessed. One that is copied is the
-// cheapest to see and holds whether or not it is asked for, so it is tried before that is. Where there are slots, it
+// Whether record r is seen to hold: it has no value, its target is not asked for, or it is guessed. One that is copied is
+// the cheapest to see and holds whether or not it is asked for, so it is tried before that is. Where there are slots, it
 // is looked for in them and not tried around. Where the lists have the order of the target records, as `ordered`
 // says, it is looked up there, and a record that is not seen to hold breaks the rule.
 fn find_record(
@@ -507,6 +507,12 @@ fn find_record(
     ensures { λ x. ⌜ (x .found ≡ true → breaksTarget (table (now (s .entry)) (now (cells .entry)) width 0) (t .k) (t .when) (table (now (u .entry)) (now («u_cells» .entry)) «u_width» «u_records») (t .m) (now (places .entry)) (now (texts .entry)) r ≡ false) ⌝ }
     ensures { λ x. ⌜ (x .found ≡ false → ordered ≡ true → breaksTarget (table (now (s .entry)) (now (cells .entry)) width 0) (t .k) (t .when) (table (now (u .entry)) (now («u_cells» .entry)) «u_width» «u_records») (t .m) (now (places .entry)) (now (texts .entry)) r ≡ true) ⌝ }
 {
+    if !is_given(cells, width, r, t.k) {
+        return Near {
+            found: true,
+            record: near,
+        };
+    }
     let at = start_of(cells, width, r, t.k);
     let end = end_of(cells, width, r, t.k);
     let copy = guess_copy(s, at, end, u, u_cells, u_width, u_records, t.m, near);
