@@ -1,7 +1,7 @@
 -- The fields that must hold a value, by their numbers: what they say of a record, and how they are put down.
 -- Assumes nothing.
 use Prim.Native.Nat.{ℕ, zero, suc, _+_, _-_, _*_, _%_, _≤_, _<_}
-use mathlib.Core.Path.{_≡_, refl, sym, _∙_}
+use mathlib.Core.Path.{_≡_, refl, sym, ap, _∙_}
 use mathlib.Core.Bool.{Bool, true, false, cond, _||_}
 use mathlib.Core.List.{List, [], _∷_, _++_, map, append-assoc, append-nil}
 use native.Mathlib.Nat.{not-suc-le-zero, le-of-suc-le-suc, sub-zero, mod-eq-of-lt}
@@ -9,7 +9,7 @@ use native.Mathlib.Numerals.{add-one}
 use native.Mathlib.Omega.{arith}
 use borrow.Author.Tests.{eq-eqb, ne-eqb}
 use lib.ListN.{length, getD, set, take, drop, length-take, length-set, drop-of-length-le}
-use lib.Seq.{drop-cons, take-all, take-append-le, take-suc-set}
+use lib.Seq.{drop-cons, drop-drop, drop-set-lt, take-all, take-append-le, take-suc-set}
 use lib.Dec.{eqb}
 use Rattle.table_rows.specs.Rows.{nullableAt, listed, fieldAt, fieldsFrom}
 use Rattle.table_record.specs.Record.{endCell, lacks, isMissing}
@@ -99,17 +99,19 @@ module _ (cells : List ℕ) (base : ℕ) (required : List ℕ) (i : ℕ) where
   unfolding isOneEmpty
   missing-none l = rw (drop-of-length-le required l)
 
--- ---- how they are put down: the first n places, with what the fields from k on put behind them, are the whole
-pub record Filling (rows : List ℕ) (count room : ℕ) (required : List ℕ) (n k : ℕ) : Type 0 where
+-- ---- how they are put down: the first n places, with what the fields from k on put behind them, are the whole, and behind
+-- them stands what stood there before
+pub record Filling (rows : List ℕ) (count room : ℕ) (before required : List ℕ) (n k : ℕ) : Type 0 where
   pub long : length required ≡ room
+  pub behind : drop n required ≡ drop n before
   pub inside : n ≤ room
   pub whole : take room (take n required ++ map (λ f. f % 256) (requiredFrom rows (count - k) k)) ≡ requiredBytes rows count room
 
-pub filling-starts : (rows : List ℕ) (count : ℕ) (required : List ℕ) → Filling rows count (length required) required 0 0
+pub filling-starts : (rows : List ℕ) (count : ℕ) (required : List ℕ) → Filling rows count (length required) required required 0 0
 unfolding requiredBytes
-filling-starts rows count required = record { long = refl; inside = omega arith; whole = rw sub-zero }
+filling-starts rows count required = record { long = refl; behind = refl; inside = omega arith; whole = rw sub-zero }
 
-module _ (rows : List ℕ) (count room : ℕ) (required : List ℕ) (n k : ℕ) (so : Filling rows count room required n k) where
+module _ (rows : List ℕ) (count room : ℕ) (before required : List ℕ) (n k : ℕ) (so : Filling rows count room before required n k) where
   pub filling-ends : count ≤ k → take n required ≡ requiredBytes rows count room
   unfolding requiredFrom
   filling-ends l =
@@ -118,10 +120,15 @@ module _ (rows : List ℕ) (count room : ℕ) (required : List ℕ) (n k : ℕ) 
       ∙ (rw (e, append-nil) at (so .whole))
 
   module _ (l : k < count) (t : Bool) (is : t ≡ nullableAt rows k) (then : List ℕ) (m : ℕ) where
-    pub filling-put : t ≡ false → n < length required → then ≡ set required n (k % 256) → m ≡ n + 1 → Filling rows count room then m (k + 1)
+    pub filling-put : t ≡ false → n < length required → then ≡ set required n (k % 256) → m ≡ n + 1 → Filling rows count room before then m (k + 1)
     filling-put e h isThen isM =
         rw (isThen, isM) record {
           long = length-set required n (k % 256) ∙ so .long;
+          behind =
+              drop-set-lt (n + 1) required n (k % 256) (omega arith)
+              ∙ sym (drop-drop 1 n required)
+              ∙ ap (drop 1) (so .behind)
+              ∙ drop-drop 1 n before;
           inside = omega (arith, so .long);
           whole =
               rw (add-one n, take-suc-set required n (k % 256) h, append-assoc) (
@@ -129,20 +136,22 @@ module _ (rows : List ℕ) (count room : ℕ) (required : List ℕ) (n k : ℕ) 
               );
         }
 
-    pub filling-passed : t ≡ true → then ≡ required → m ≡ n → Filling rows count room then m (k + 1)
+    pub filling-passed : t ≡ true → then ≡ required → m ≡ n → Filling rows count room before then m (k + 1)
     filling-passed e isThen isM =
         rw (isThen, isM) record {
           long = so .long;
+          behind = so .behind;
           inside = so .inside;
           whole = rw (required-next rows count k l t is, e) at (so .whole);
         }
 
   -- where no room is left, nothing more counts
-  pub filling-full : (then : List ℕ) (m : ℕ) → length required ≤ n → then ≡ required → m ≡ n → Filling rows count room then m (k + 1)
+  pub filling-full : (then : List ℕ) (m : ℕ) → length required ≤ n → then ≡ required → m ≡ n → Filling rows count room before then m (k + 1)
   filling-full then m h isThen isM =
       let p : room ≤ length (take n required) = omega (arith, length-take n required, so .long) in
       rw (isThen, isM) record {
         long = so .long;
+        behind = so .behind;
         inside = so .inside;
         whole =
             take-append-le room (take n required) _ p ∙ sym (take-append-le room (take n required) _ p) ∙ so .whole;

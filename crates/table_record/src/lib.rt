@@ -3,7 +3,7 @@
 ghost use mathlib.Core.Path.{_≡_};
 ghost use mathlib.Core.Bool.{true};
 ghost use Prim.Native.Nat.{_+_, _*_, _^_, _≤_, _<_};
-ghost use lib.ListN.{length, take};
+ghost use lib.ListN.{length, take, drop};
 ghost use Rattle.table_rows.specs.Rows.{fieldsFrom};
 ghost use Rattle.table_name.specs.Name.{nameAt};
 ghost use Rattle.table_name.specs.Guess.{namesApart};
@@ -261,6 +261,7 @@ fn has_room(s: &[u8], cells: &[u32], base: usize, count: usize) -> bool
 // those are. A caller asks once for all records of a table.
 pub fn fill_required(rows: &[u32], count: usize, required: &mut [u8]) -> usize
     ensures { λ r. ⌜ take r (now (required .exit)) ≡ requiredBytes (now (rows .entry)) count (length (now (required .entry))) ⌝ }
+    ensures { λ r. ⌜ drop r (now (required .exit)) ≡ drop r (now (required .entry)) ⌝ }
     ensures { λ r. ⌜ r ≤ length (now (required .entry)) ⌝ }
 {
     let mut n = 0;

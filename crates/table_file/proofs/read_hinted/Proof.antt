@@ -27,7 +27,7 @@ array-share-prefix-required c = search needs
 slice-aggregate-read-elements-2 : tie.Need-slice-aggregate-read-elements-2
 slice-aggregate-read-elements-2 c =
     let b = c .before .before .before .before .before in
-    sym (length-take-le _ _ (omega (arith, b .fill-required .ensures .1, b .fill-required .kept)))
+    sym (length-take-le _ _ (omega (arith, b .fill-required .ensures .1 .1, b .fill-required .kept)))
 
 read-elements-requires : tie.Need-read-elements-requires
 read-elements-requires c κs =
@@ -55,7 +55,7 @@ array-share-prefix-required-2 c = search needs
 slice-aggregate-read-elements-4 : tie.Need-slice-aggregate-read-elements-4
 slice-aggregate-read-elements-4 c =
     let b = c .before .before .before .before .before .before .before .before in
-    sym (length-take-le _ _ (omega (arith, b .fill-required .ensures .1, b .fill-required .kept)))
+    sym (length-take-le _ _ (omega (arith, b .fill-required .ensures .1 .1, b .fill-required .kept)))
 
 read-elements-requires-2 : tie.Need-read-elements-requires-2
 read-elements-requires-2 c κs =

@@ -27,7 +27,7 @@ array-share-prefix-required c = search needs
 slice-aggregate-read-record-2 : tie.Need-slice-aggregate-read-record-2
 slice-aggregate-read-record-2 c =
     let b = c .before .before .before in
-    sym (length-take-le _ _ (omega (arith, b .fill-required .ensures .1, b .fill-required .kept)))
+    sym (length-take-le _ _ (omega (arith, b .fill-required .ensures .1 .1, b .fill-required .kept)))
 
 read-record-requires : tie.Need-read-record-requires
 read-record-requires c κs = ((λ e. absurd (not-suc-le-zero e)), required-all _ _ _ (c .before .before .before .before .fill-required .ensures .0))

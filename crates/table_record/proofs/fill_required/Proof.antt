@@ -10,7 +10,7 @@ use Rattle.table_record.proofs.fill_required.Statement.{statement}
 use Rattle.table_record.proofs.fill_required.Tie as tie
 
 abbrev Inv-loop : tie.InvT-loop
-Inv-loop rows count required₀ n₀ k₀ required n k = (k ≤ count) × Filling rows count (length required₀) required n k
+Inv-loop rows count required₀ n₀ k₀ required n k = (k ≤ count) × Filling rows count (length required₀) required₀ required n k
 
 abbrev μ-loop : tie.MeasureT-loop
 μ-loop rows count required₀ n₀ k₀ required n k = count - k
@@ -43,10 +43,10 @@ loop-again c =
     let is = c .before .is-nullable .ensures in (
       omega arith,
       ⊎-elim
-          (λ w. filling-put _ _ _ _ _ _ so l _ is _ _ (not-true _ (w .0 .taken)) (w .1 .taken) (w .2) (w .3))
+          (λ w. filling-put _ _ _ _ _ _ _ so l _ is _ _ (not-true _ (w .0 .taken)) (w .1 .taken) (w .2) (w .3))
           (⊎-elim
-          (λ w. filling-full _ _ _ _ _ _ so _ _ (w .1 .left) (w .2) (w .3))
-          (λ w. filling-passed _ _ _ _ _ _ so l _ is _ _ (not-false _ (w .0 .left)) (w .1) (w .2)))
+          (λ w. filling-full _ _ _ _ _ _ _ so _ _ (w .1 .left) (w .2) (w .3))
+          (λ w. filling-passed _ _ _ _ _ _ _ so l _ is _ _ (not-false _ (w .0 .left)) (w .1) (w .2)))
           (c .if1 .came),
     )
 
@@ -54,7 +54,8 @@ same-length : tie.Need-same-length Inv-loop μ-loop
 same-length c = c .before .loop .inv .1 .long
 
 returns : tie.Need-returns Inv-loop μ-loop
-returns c = (filling-ends _ _ _ _ _ _ (c .before .loop .inv .1) (c .loop-test .left), c .before .loop .inv .1 .inside)
+returns c =
+    (filling-ends _ _ _ _ _ _ _ (c .before .loop .inv .1) (c .loop-test .left), (c .before .loop .inv .1 .behind, c .before .loop .inv .1 .inside))
 
 pub fill-required-spec : {M : Type 1} → statement M
 fill-required-spec =
