@@ -18,7 +18,7 @@ use Rattle.json_bytes.specs.Eight.{packedAt, eightAt}
 use Rattle.json_bytes.proofs.Laws.{both-left, both-right, run-more, run-stops}
 use Rattle.json_bytes.proofs.Eight.{Bytes}
 use Rattle.json_text.specs.Run.{isGraphic, runEnd}
-use Rattle.json_text.specs.Eight.{eachByte, oddFlag, oddBytes, firstByte}
+use Rattle.json_text.specs.Eight.{eachByte, oddFlag, oddBytes, noSpaceFlag, noSpaceBytes, firstByte}
 
 -- ---- an operation that works on each byte apart
 abbrev Small : (ℕ → ℕ) → Type 0
@@ -89,6 +89,9 @@ flag b =
     (bitOr (bitOr b (low b + 0x01)) (bitXor (bitAnd (bitAnd (low b + 0x5F) (bitXor (low b) 0x22 + 0x7F)) (bitXor (low b) 0x5C + 0x7F)) 0x80))
     0x80
 
+noSpace : ℕ → ℕ
+noSpace b = bitAnd (bitOr b (bitXor (low b) 0x20 + 0x7F)) 0x80
+
 -- a test that is computed of every number below a bound holds of each
 allBelow : (ℕ → Bool) → ℕ → Bool
 allBelow f zero = true
@@ -103,10 +106,17 @@ below f (suc n) e b l = go (eqb b n) refl (below f n (both-right (f n) (allBelow
     go true q rest = rw (eqb-true b n q) (both-left (f n) (allBelow f n) e)
     go false q rest = rest (omega (arith, eqb-false b n q))
 
--- the two are the same for each byte that there is
-flag-tells : (b : ℕ) → b < 256 → flag b ≡ oddFlag b
+-- what is the same of each byte that there is
+all-same : (f g : ℕ → ℕ) → allBelow (λ b. eqb (f b) (g b)) 256 ≡ true → (n x : ℕ) → eachByte f n x ≡ eachByte g n x
+all-same f g e = each-same f g (λ b l. eqb-true (f b) (g b) (below (λ b. eqb (f b) (g b)) 256 e b l))
+
+flag-tells : (n x : ℕ) → eachByte flag n x ≡ eachByte oddFlag n x
 unfolding flag low oddFlag isGraphic within allBelow
-flag-tells b l = eqb-true (flag b) (oddFlag b) (below (λ b. eqb (flag b) (oddFlag b)) 256 refl b l)
+flag-tells = all-same flag oddFlag refl
+
+no-space-tells : (n x : ℕ) → eachByte noSpace n x ≡ eachByte noSpaceFlag n x
+unfolding noSpace low noSpaceFlag allBelow
+no-space-tells = all-same noSpace noSpaceFlag refl
 
 low-bound : (b : ℕ) → low b < 128
 unfolding low
@@ -145,7 +155,16 @@ module _ (x : ℕ) (l : x < 2 ^ 64) where
       (same-byte x 0x80 (lit< tt))))
       (same-byte x 0x80 (lit< tt))
       .is
-      ∙ each-same flag oddFlag flag-tells 8 x
+      ∙ flag-tells 8 x
+
+  pub no-spaces-told : bitAnd (bitOr x (bitXor y 0x2020202020202020 + 0x7F7F7F7F7F7F7F7F)) 0x8080808080808080 ≡ noSpaceBytes x
+  unfolding noSpaceBytes noSpace
+  no-spaces-told =
+      each-and x _ (λ b. 0x80)
+      (each-or x (λ b. b) _ (own-byte x l) (differs 0x20 (lit< tt)))
+      (same-byte x 0x80 (lit< tt))
+      .is
+      ∙ no-space-tells 8 x
 
 -- ---- the first flag
 -- zeros below a number are counted before its own
@@ -155,13 +174,13 @@ trailing-past k a zero = rw (zero-add k, mul-one a, zero-add (trailingZeros k a)
 trailing-past k a (suc m) = rw (suc-add m k, trailingZeros, shifted-even a m, shifted-half a m, trailing-past k a m, suc-add m (trailingZeros k a))
 
 -- a byte that has no flag is passed
-past-clear : (n x : ℕ) → trailingZeros (suc n * 8) (x * 256 + 0) / 8 ≡ 1 + trailingZeros (n * 8) x / 8
+pub past-clear : (n x : ℕ) → trailingZeros (suc n * 8) (x * 256 + 0) / 8 ≡ 1 + trailingZeros (n * 8) x / 8
 past-clear n x =
     let width : suc n * 8 ≡ 8 + n * 8 = omega arith in
     rw (width, add-zero (x * 256), trailing-past (n * 8) x 8, add-div-left (trailingZeros (n * 8) x) {k = 8} (lit< tt)) (add-comm (trailingZeros (n * 8) x / 8) 1)
 
 -- and the count ends at one that has
-at-flag : (n x : ℕ) → trailingZeros (suc n * 8) (x * 256 + 128) / 8 ≡ 0
+pub at-flag : (n x : ℕ) → trailingZeros (suc n * 8) (x * 256 + 128) / 8 ≡ 0
 unfolding trailingZeros
 at-flag n x =
     let width : suc n * 8 ≡ 7 + suc (n * 8) = omega arith in

@@ -3,10 +3,11 @@
 -- Assumes nothing.
 use Prim.Native.Nat.{ℕ, zero, suc, _+_, _-_, _≤_, _<_}
 use mathlib.Core.Path.{_≡_, refl, sym, ap, _∙_}
-use mathlib.Core.Bool.{Bool, true, false, cond, _||_}
+use mathlib.Core.Bool.{Bool, true, false, cond, _&&_, _||_}
 use mathlib.Core.List.{List, [], _∷_}
+use native.Mathlib.Nat.{add-zero, zero-add, suc-add}
 use native.Mathlib.Omega.{arith}
-use borrow.Author.Tests.{eq-eqb, ne-eqb, lt-ltb, le-ltb, ltb-true, ltb-false, eqb-true, eqb-false, not-true}
+use borrow.Author.Tests.{eq-eqb, ne-eqb, lt-ltb, le-ltb, ltb-true, ltb-false, eqb-true}
 use lib.ListN.{length, drop}
 use lib.Dec.{ltb, eqb}
 use Rattle.json_bytes.specs.Reads.{byteAt, within, leading}
@@ -18,7 +19,7 @@ use Rattle.json_chars.specs.declared.Step.the-variants.{Char, Close, Bad}
 use Rattle.json_bytes.proofs.Laws.{both-left, both-right, within-from, within-to}
 use Rattle.json_chars.proofs.Bounds.{step-good, Good}
 use Rattle.json_chars.proofs.Walk.{own-step}
-use Rattle.json_text.specs.Run.{isGraphic, Run, runEnd, edgeBehind, innerSpace}
+use Rattle.json_text.specs.Run.{isGraphic, Run, runEnd, edgeBehind, inWords, Words}
 use Rattle.json_text.specs.Text.{textFrom, textAt, ruleBroken, none, wrongHere, firstWrong, closesAt, wrongFrom, wrongAt, textRead}
 use Rattle.json_text.specs.declared.TextType.{TextType}
 use Rattle.json_text.specs.declared.Wrong.{Wrong}
@@ -135,6 +136,22 @@ passed f (b ∷ bs) zero k l m = go (f b) refl (λ j n. passed f bs zero j (omeg
 passed f (b ∷ bs) (suc i) zero l m = absurd (omega arith)
 passed f (b ∷ bs) (suc i) (suc k) l m = passed f bs i k (omega arith) (omega arith)
 
+-- and the one that it ends at, or the 0 past the end, does not
+stopped : (f : ℕ → Bool) → f 0 ≡ false → (s : List ℕ) (i : ℕ) → f (byteAt s (i + leading f (drop i s))) ≡ false
+unfolding leading
+stopped f h [] zero = h
+stopped f h [] (suc i) = h
+stopped f h (b ∷ bs) zero = go (f b) refl (stopped f h bs zero)
+  where
+    go : (t : Bool) → f b ≡ t → f (byteAt bs (0 + leading f bs)) ≡ false → f (byteAt (b ∷ bs) (0 + (elim t [ true ↦ suc (leading f bs) | false ↦ 0 ]))) ≡ false
+    go true e others = rw (zero-add (suc (leading f bs))) (rw (zero-add (leading f bs)) at others)
+    go false e others = e
+stopped f h (b ∷ bs) (suc i) = rw (suc-add i (leading f (drop i bs))) (stopped f h bs i)
+
+pub run-over : (s : List ℕ) (i : ℕ) → isGraphic (byteAt s (runEnd s i)) ≡ false
+unfolding runEnd isGraphic within
+run-over s i = stopped isGraphic refl s i
+
 pub run-of : (s : List ℕ) (i j : ℕ) → j ≡ runEnd s i → Run s i j
 unfolding runEnd
 run-of s i j is = record { onwards = omega (arith, is); graphic = λ k a b. passed isGraphic s i k a (rw is at b) }
@@ -192,32 +209,69 @@ module _ (ty : TextType) (s : List ℕ) (at : ℕ) (w : Wrong) where
   pub along-end : (i j : ℕ) (edge : Bool) → Left ty s at w i edge → j ≡ runEnd s i → Left ty s at w j (edgeBehind edge i j)
   along-end i j edge left is = along-run i j edge left (run-of s i j is)
 
--- ---- a space behind such a run, which the closing quote does not follow
-module _ (s : List ℕ) (i j : ℕ) where
-  pub record Inner : Type 0 where
-    pub run : ltb i j ≡ true
-    pub space : byteAt s j ≡ 32
-    pub goes-on : closesAt s (j + 1) ≡ false
+-- ---- words with single spaces between them
+module _ (s : List ℕ) (k : ℕ) where
+  pub graphic-in : isGraphic (byteAt s k) ≡ true → inWords s k ≡ true
+  unfolding inWords
+  graphic-in q = rw q
 
-  pub inner-of : {t : Bool} → t ≡ innerSpace s i j → t ≡ true → Inner
-  unfolding innerSpace closesAt
-  inner-of is told =
-      let all : innerSpace s i j ≡ true = sym is ∙ told in
-      let others = both-right (ltb i j) _ all in
-      record {
-        run = both-left (ltb i j) _ all;
-        space = eqb-true (byteAt s j) 32 (both-left (eqb (byteAt s j) 32) _ others);
-        goes-on = not-true _ (both-right (eqb (byteAt s j) 32) _ others);
-      }
+  -- what stands in words and is no graphic byte is a space before one
+  space-in : isGraphic (byteAt s k) ≡ false → inWords s k ≡ true → (byteAt s k ≡ 32) × (isGraphic (byteAt s (k + 1)) ≡ true)
+  unfolding inWords
+  space-in q e =
+      let both : (eqb (byteAt s k) 32 && isGraphic (byteAt s (k + 1))) ≡ true = rw q at e in
+      (eqb-true (byteAt s k) 32 (both-left _ _ both), both-right (eqb (byteAt s k) 32) _ both)
+
+  pub word-in : (byteAt s k ≡ 32 → ⊥) → inWords s k ≡ true → isGraphic (byteAt s k) ≡ true
+  word-in n e = go (isGraphic (byteAt s k)) refl
+    where
+      go : (t : Bool) → isGraphic (byteAt s k) ≡ t → t ≡ true
+      go true q = refl
+      go false q = absurd (n (space-in q e .0))
+
+  open-on : isGraphic (byteAt s k) ≡ true → closesAt s k ≡ false
+  unfolding isGraphic closesAt
+  open-on g = not-first (eqb (byteAt s k) 34) _ g .0
+
+no-edge : (edge t : Bool) → (edge ≡ true → t ≡ true) → t ≡ false → edge ≡ false
+no-edge true t h q = sym (h refl) ∙ q
+no-edge false t h q = refl
 
 module _ (ty : TextType) (s : List ℕ) (at : ℕ) (w : Wrong) where
-  pub along-space : (i j : ℕ) (edge : Bool) → Left ty s at w i edge → j ≡ runEnd s i → Inner s i j → Left ty s at w (j + 1) true
+  -- a space that stands at no edge
+  along-space : (i : ℕ) → Left ty s at w i false → byteAt s i ≡ 32 → closesAt s (i + 1) ≡ false → Left ty s at w (i + 1) true
+  along-space i left space on =
+      let step : stepAt s i ≡ Char 32 (i + 1) = rw space at (own-step s i (omega (arith, space)) (omega (arith, space)) (ne-eqb (byteAt s i) 34 (λ e. omega (arith, space, e))) (ne-eqb (byteAt s i) 92 (λ e. omega (arith, space, e)))) in
+      take-char ty s at w i false left 32 (i + 1) 0 false w step (sym on) (sym (space-right ty)) (sym (right-here w i (left .tidy)))
+
+  -- at an edge, and at the end, no space stands
+  along-each : (n i : ℕ) (edge : Bool) → Left ty s at w i edge → (edge ≡ true → isGraphic (byteAt s i) ≡ true) → ((k : ℕ) → i ≤ k → k < i + n → inWords s k ≡ true) → isGraphic (byteAt s (i + n)) ≡ false → Left ty s at w (i + n) false
+  along-each zero i edge left h each ends =
+      let here : isGraphic (byteAt s i) ≡ false = rw (add-zero i) at ends in
+      rw (add-zero i) (rw (no-edge edge _ h here) at left)
+  along-each (suc n) i edge left h each ends = go (isGraphic (byteAt s i)) refl (λ e l g. along-each n (i + 1) e l g (λ k a b. each k (omega arith) (omega arith)) (rw (sym next) at ends))
+    where
+      next : i + 1 + n ≡ i + suc n
+      next = omega arith
+
+      go : (t : Bool) → isGraphic (byteAt s i) ≡ t → ((e : Bool) → Left ty s at w (i + 1) e → (e ≡ true → isGraphic (byteAt s (i + 1)) ≡ true) → Left ty s at w (i + 1 + n) false) → Left ty s at w (i + suc n) false
+      go true q rest = rw next at (rest false (along-one ty s at w i edge left q) (λ e. cc))
+      go false q rest =
+          let space = space-in s i q (each i (omega arith) (omega arith)) in
+          rw next at (rest true (along-space i (rw (no-edge edge _ h q) at left) (space .0) (open-on s (i + 1) (space .1))) (λ e. space .1))
+
+  pub along-words : (i j : ℕ) (edge : Bool) → Left ty s at w i edge → Words s i j → Left ty s at w j (edgeBehind edge i j)
   unfolding edgeBehind
-  along-space i j edge left is inner =
-      let none : edgeBehind edge i j ≡ false = rw (inner .run) in
-      let behind : Left ty s at w j false = rw none at (along-end ty s at w i j edge left is) in
-      let step : stepAt s j ≡ Char 32 (j + 1) = rw (inner .space) at (own-step s j (omega (arith, inner .space)) (omega (arith, inner .space)) (ne-eqb (byteAt s j) 34 (λ e. omega (arith, inner .space, e))) (ne-eqb (byteAt s j) 92 (λ e. omega (arith, inner .space, e)))) in
-      take-char ty s at w j false behind 32 (j + 1) 0 false w step (sym (inner .goes-on)) (sym (space-right ty)) (sym (right-here w j (behind .tidy)))
+  along-words i j edge left words = go (ltb i j) refl
+    where
+      go : (t : Bool) → ltb i j ≡ t → Left ty s at w j (cond t false edge)
+      go true e =
+          let l = ltb-true i j e in
+          let is : i + (j - i) ≡ j = omega (arith, l) in
+          rw is at (along-each (j - i) i edge left (λ _. words .begins l) (λ k a b. words .each k a (omega (arith, is))) (rw (sym is) at (words .ends)))
+      go false e =
+          let is : i ≡ j = omega (arith, ltb-false i j e, words .onwards) in
+          rw is at left
 
 module _ (ty : TextType) (s : List ℕ) (at : ℕ) where
   pub opened : at < length s → byteAt s at ≡ 34 → Left ty s at (record { rule = 0; place = 0 }) (at + 1) true

@@ -1,6 +1,8 @@
 pub mod Opens
 pub mod Flags
+pub mod Stops
 pub mod Laws
+pub mod Words
 pub mod Plain
 pub mod Bounds
 pub mod Spaces

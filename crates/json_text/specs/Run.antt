@@ -1,7 +1,7 @@
 -- For the code's sake alone: a run of bytes that are characters by themselves and break no rule of any type.
 use Prim.Native.Nat.{ℕ, _+_, _≤_, _<_}
 use mathlib.Core.Path.{_≡_}
-use mathlib.Core.Bool.{Bool, true, false, cond, not, _&&_}
+use mathlib.Core.Bool.{Bool, true, false, cond, _&&_, _||_}
 use mathlib.Core.List.{List}
 use lib.ListN.{drop}
 use lib.Dec.{ltb, eqb}
@@ -31,6 +31,13 @@ plainEnd s at =
 unfoldable pub edgeBehind : Bool → ℕ → ℕ → Bool
 edgeBehind edge i j = cond (ltb i j) false edge
 
--- behind one of them a space that the closing quote does not follow breaks no rule either
-unfoldable pub innerSpace : List ℕ → ℕ → ℕ → Bool
-innerSpace s i j = ltb i j && (eqb (byteAt s j) 32 && not (eqb (byteAt s (j + 1)) 34))
+-- one of them at k, or a space right before one
+unfoldable pub inWords : List ℕ → ℕ → Bool
+inWords s k = isGraphic (byteAt s k) || (eqb (byteAt s k) 32 && isGraphic (byteAt s (k + 1)))
+
+-- words of them from i up to j, and single spaces between the words: no space comes first or last, and no word goes on at j
+pub record Words (s : List ℕ) (i j : ℕ) : Type 0 where
+  pub onwards : i ≤ j
+  pub each : (k : ℕ) → i ≤ k → k < j → inWords s k ≡ true
+  pub begins : i < j → isGraphic (byteAt s i) ≡ true
+  pub ends : isGraphic (byteAt s j) ≡ false

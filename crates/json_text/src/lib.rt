@@ -1,8 +1,10 @@
 // A string read whole, with the first character that breaks a rule of its type, in one pass.
+ghost use Prim.Native.Nat.{_≤_};
 ghost use mathlib.Core.Path.{_≡_};
 ghost use mathlib.Core.Bool.{_||_};
-ghost use Rattle.json_text.specs.Eight.{oddBytes, firstByte};
-ghost use Rattle.json_text.specs.Run.{isGraphic, runEnd, plainEnd, edgeBehind, innerSpace};
+ghost use lib.ListN.{length};
+ghost use Rattle.json_text.specs.Eight.{oddBytes, noSpaceBytes, stopBytes, firstByte};
+ghost use Rattle.json_text.specs.Run.{isGraphic, runEnd, plainEnd, edgeBehind, Words};
 ghost use Rattle.json_text.specs.Text.{barred, whiteSpace, blanks, inRuns, isWhite, wrongSpace, outsideID, ruleBroken, wrongHere, firstWrong, closesAt, textRead};
 ghost use mathlib.Core.Bool.{true};
 ghost use Rattle.json_text.specs.Escape.{PlainEscape};
@@ -218,6 +220,24 @@ fn odd_bytes(x: u64) -> u64
     ((x | over) | (((graphic & no_quote) & no_slash) ^ 0x8080808080808080)) & 0x8080808080808080
 }
 
+// Which bytes of a number are no spaces: the highest bit of each that is none.
+fn no_space_bytes(x: u64) -> u64
+    ensures { λ r. ⌜ r ≡ noSpaceBytes x ⌝ }
+{
+    let differs = (x & 0x7F7F7F7F7F7F7F7F) ^ 0x2020202020202020;
+    let over = differs + 0x7F7F7F7F7F7F7F7F;
+    (x | over) & 0x8080808080808080
+}
+
+// Which bytes of a number stop words with single spaces between them: the highest bit of each that is no such byte and
+// no space right before one. What follows the last byte isn't known: a space there is not flagged.
+fn stop_bytes(x: u64) -> u64
+    ensures { λ r. ⌜ r ≡ stopBytes x ⌝ }
+{
+    let odd = odd_bytes(x);
+    odd & ((odd / 256) | no_space_bytes(x))
+}
+
 // Which byte of a number, from 0, holds its lowest bit; 8 for the number 0.
 fn first_byte(x: u64) -> usize
     ensures { λ r. ⌜ r ≡ firstByte x ⌝ }
@@ -262,7 +282,28 @@ pub fn plain_end(s: &[u8], at: usize) -> usize
     0
 }
 
-// Behind a run of such bytes there is no edge.
+// A place from i on that does not hold such a byte, and up to which such bytes and single spaces between them stand:
+// eight bytes at a time while there are eight, of which the last is looked at again, with the one behind it. A space
+// at i itself is not passed, as an edge may stand there.
+fn words_end(s: &[u8], i: usize) -> usize
+    requires { ⌜ i ≤ length (now s) ⌝ }
+    ensures { λ r. ⌜ Words (now (s .entry)) i r ⌝ }
+{
+    if byte_at(s, i) == 32 {
+        return i;
+    }
+    let mut k = i;
+    while k + 8 <= s.len() {
+        let stop = stop_bytes(eight_at(s, k));
+        if stop != 0 {
+            return k + first_byte(stop);
+        }
+        k += 7;
+    }
+    bytes_end(s, k)
+}
+
+// Behind words of such bytes there is no edge.
 fn is_edge_behind(edge: bool, i: usize, j: usize) -> bool
     ensures { λ r. ⌜ r ≡ edgeBehind edge i j ⌝ }
 {
@@ -270,20 +311,6 @@ fn is_edge_behind(edge: bool, i: usize, j: usize) -> bool
         return false;
     }
     edge
-}
-
-// Whether a space stands at j, behind a run of such bytes from i on, that breaks no rule of any type: the
-// closing quote does not follow it.
-fn is_inner_space(s: &[u8], i: usize, j: usize) -> bool
-    ensures { λ r. ⌜ r ≡ innerSpace (now (s .entry)) i j ⌝ }
-{
-    if j <= i {
-        return false;
-    }
-    if byte_at(s, j) == 32 {
-        return byte_at(s, j + 1) != 34;
-    }
-    false
 }
 
 // Whether an escape stands at j whose character breaks no rule of any type: `\u0030` to `\u007e`, a digit over 9
@@ -325,8 +352,8 @@ fn is_plain_escape(s: &[u8], j: usize) -> bool
 }
 
 // The string whose opening quote stands at `at`: the place behind its closing quote or its fault,
-// and its first character that breaks a rule of the type. Most bytes are in runs, and most others are the space
-// between two words or in a plain escape: none of these needs a step.
+// and its first character that breaks a rule of the type. Most bytes are in words with single spaces between them,
+// and most others in a plain escape: none of these needs a step.
 pub fn read_text(s: &[u8], at: usize, ty: TextType) -> TextRead
     ensures { λ r. ⌜ r ≡ textRead ty (now (s .entry)) at ⌝ }
 {
@@ -343,7 +370,7 @@ pub fn read_text(s: &[u8], at: usize, ty: TextType) -> TextRead
     let mut i = at + 1;
     let mut edge = true;
     loop {
-        let j = run_end(s, i);
+        let j = words_end(s, i);
         if byte_at(s, j) == 34 {
             let end = j + 1;
             return TextRead {
@@ -351,10 +378,7 @@ pub fn read_text(s: &[u8], at: usize, ty: TextType) -> TextRead
                 wrong,
             };
         }
-        if is_inner_space(s, i, j) {
-            edge = true;
-            i = j + 1;
-        } else if is_plain_escape(s, j) {
+        if is_plain_escape(s, j) {
             edge = false;
             i = j + 6;
         } else {
