@@ -2,7 +2,7 @@
 -- Assumes nothing.
 use Prim.Native.Nat.{ℕ, zero, suc, _*_, _-_, _≤_, _<_}
 use mathlib.Core.Path.{_≡_, refl, sym, ap, _∙_, fun-ext}
-use mathlib.Core.Bool.{Bool, true, false, not, cond, _&&_}
+use mathlib.Core.Bool.{Bool, true, false, not, cond, _&&_, and-false}
 use mathlib.Core.List.{List}
 use native.Mathlib.Nat.{sub-zero}
 use native.Mathlib.Omega.{arith}
@@ -74,36 +74,24 @@ seen text u cells width n m q start h e f =
 
 -- ---- one record of the rule
 module _ (t : Table) (k : ℕ) (w : When) (u : Table) (m : ℕ) (places texts : List ℕ) (r : ℕ) where
-  abbrev asked : Bool
-  asked = isGiven (t .cells) (t .width) r k && holdsWhen t r w places texts
-
-  breaks-asked : breaksTarget t k w u m places texts r ≡ (asked && eqb (targetOf (textOf t r k) u m) 0)
-  unfolding breaksTarget
-  breaks-asked = go (isGiven (t .cells) (t .width) r k)
-    where
-      go : (b : Bool) → (b && (holdsWhen t r w places texts && eqb (targetOf (textOf t r k) u m) 0)) ≡ ((b && holdsWhen t r w places texts) && eqb (targetOf (textOf t r k) u m) 0)
-      go true = refl
-      go false = refl
-
-  pub unasked-holds : asked ≡ false → breaksTarget t k w u m places texts r ≡ false
-  unasked-holds e = breaks-asked ∙ rw e
-
   pub ungiven-holds : isGiven (t .cells) (t .width) r k ≡ false → breaksTarget t k w u m places texts r ≡ false
-  ungiven-holds e = unasked-holds (rw e)
+  unfolding breaksTarget
+  ungiven-holds e = rw (breaksTarget, e)
+
+  -- its target is not asked for
+  pub unasked-holds : holdsWhen t r w places texts ≡ false → breaksTarget t k w u m places texts r ≡ false
+  unfolding breaksTarget
+  unasked-holds e = rw (breaksTarget, e, and-false)
 
   -- the value stands where its cell says
   module _ (at : ℕ) (is : at ≡ startOf (t .cells) (t .width) r k) where
     pub target-holds : eqb (targetOf (charsAt (t .bytes) at) u m) 0 ≡ false → breaksTarget t k w u m places texts r ≡ false
-    unfolding textOf
-    target-holds e = breaks-asked ∙ (rw (← is, e) (go asked))
-      where
-        go : (b : Bool) → (b && false) ≡ false
-        go true = refl
-        go false = refl
+    unfolding breaksTarget textOf
+    target-holds e = rw (breaksTarget, textOf, ← is, e, and-false, and-false)
 
-    pub asked-breaks : asked ≡ true → eqb (targetOf (charsAt (t .bytes) at) u m) 0 ≡ breaksTarget t k w u m places texts r
-    unfolding textOf
-    asked-breaks e = sym (breaks-asked ∙ rw (e, ← is))
+    pub asked-breaks : isGiven (t .cells) (t .width) r k ≡ true → holdsWhen t r w places texts ≡ true → eqb (targetOf (charsAt (t .bytes) at) u m) 0 ≡ breaksTarget t k w u m places texts r
+    unfolding breaksTarget textOf
+    asked-breaks g h = rw (breaksTarget, textOf, g, h, ← is)
 
 -- a lookup decides whether its record breaks the rule
 pub decided : (x b ordered : Bool) → not x ≡ b → (x ≡ true → b ≡ false) × (x ≡ false → ordered ≡ true → b ≡ true)

@@ -1,13 +1,14 @@
 // A value that some record of another table must have too. Tables mostly name their targets one after the
 // other, so the record behind the target found last is tried first, then that one again, and then those
 // around it. Only where none of them is it, each target record is put into a list of slots, near a place that its
-// text tells, and from there on a value is looked for in the slots near its own place. Those around are tried no
-// more: where targets come in no order, these tries would be in vain for each record.
+// text tells, and from there on a value is looked for in the slots near its own place. Before that it is only seen
+// whether the record behind the last one has the same bytes: where targets come in no order, the other tries would
+// mostly be in vain.
 // Slots only guess: a record that stands there is compared, and one that does not may still be a target, as where
 // too many have one place. So what they don't answer, which mostly is a value that no target record has, takes the
 // dearest way: the target records are put in order, and the value is looked up there, as are all behind it.
 ghost use mathlib.Core.Path.{_≡_};
-ghost use mathlib.Core.Bool.{true, false, not, cond, _&&_};
+ghost use mathlib.Core.Bool.{true, false, cond};
 ghost use Prim.Native.Nat.{_+_, _-_, _*_, _≤_, _<_};
 ghost use lib.ListN.{length, drop};
 ghost use lib.Dec.{ltb, eqb};
@@ -15,8 +16,7 @@ ghost use Rattle.json_bytes.specs.Reads.{byteAt};
 ghost use Rattle.json_chars.specs.Chars.{charsAt};
 ghost use Rattle.json_same.specs.Same.{sameAs};
 ghost use Rattle.json_same.specs.declared.Case.the-variants.{Folded};
-ghost use Rattle.rule_cells.specs.Cells.{table, startOf, textOf, isGiven, firstFrom};
-ghost use Rattle.rule_when.specs.When.{holdsWhen};
+ghost use Rattle.rule_cells.specs.Cells.{table, startOf, textOf, firstFrom};
 ghost use Rattle.rule_target.specs.Target.{targetOf, breaksTarget, targetRule};
 ghost use Rattle.key_order.specs.Order.{sumsOf, inKeyOrder, areFit};
 ghost use Rattle.key_lookup.specs.Lookup.{keyOf, isFound};
@@ -238,25 +238,6 @@ fn guess_around(
         d += 1;
     }
     none
-}
-
-// Whether record r breaks the rule if no target record has its value.
-fn is_asked(
-    s: &[u8],
-    cells: &[u32],
-    width: usize,
-    r: usize,
-    t: Target,
-    places: &[u32],
-    texts: &[u8],
-) -> bool
-    ensures { λ x. ⌜ x ≡ (isGiven (now (cells .entry)) width r (t .k) && holdsWhen (table (now (s .entry)) (now (cells .entry)) width 0) r (t .when) (now (places .entry)) (now (texts .entry))) ⌝ }
-{
-    if is_given(cells, width, r, t.k) {
-        let when = t.when;
-        return holds_when(s, cells, width, r, when, places, texts);
-    }
-    false
 }
 
 // A text in field m alone.
@@ -481,10 +462,22 @@ fn guess_slot(
     none
 }
 
-// Whether record r is seen to hold: it has no value, its target is not asked for, or it is guessed. One that is copied is
-// the cheapest to see and holds whether or not it is asked for, so it is tried before that is. Where there are slots, it
-// is looked for in them and not tried around. Where the lists have the order of the target records, as `ordered`
-// says, it is looked up there, and a record that is not seen to hold breaks the rule.
+// Whether a value is looked for in the slots: there are some, and no order decides. Where one does, slots are not
+// asked, since what they don't find may still be a target.
+fn is_slotted(slots: &[u16], ordered: bool) -> bool
+    ensures { λ x. ⌜ (x ≡ true → ordered ≡ false) ⌝ }
+{
+    if ordered {
+        return false;
+    }
+    0 < slots.len()
+}
+
+// Whether record r is seen to hold: it has no value, its target is not asked for, or it is guessed. One that is
+// copied is the cheapest to see and holds whether or not it is asked for, so it is tried before that is. Where there
+// are slots, it is looked for in them at once: what `guess_next` and `guess_around` try would mostly be in vain.
+// Where the lists have the order of the target records, as `ordered` says, one that `guess_next` doesn't find is
+// looked up there, and a record that is not seen to hold breaks the rule.
 fn find_record(
     s: &[u8],
     cells: &[u32],
@@ -519,7 +512,11 @@ fn find_record(
     if copy.found {
         return copy;
     }
-    if is_asked(s, cells, width, r, t, places, texts) {
+    let when = t.when;
+    if holds_when(s, cells, width, r, when, places, texts) {
+        if is_slotted(slots, ordered) {
+            return guess_slot(s, at, end, u, u_cells, u_width, u_records, t.m, slots);
+        }
         let tail = tail_before(s, end);
         let tried = guess_next(s, at, tail, u, u_cells, u_width, u_records, t.m, near);
         if tried.found {
@@ -527,9 +524,6 @@ fn find_record(
         }
         if ordered {
             return look_up(s, at, u, u_cells, u_width, t.m, sums, order);
-        }
-        if 0 < slots.len() {
-            return guess_slot(s, at, end, u, u_cells, u_width, u_records, t.m, slots);
         }
         return guess_around(s, at, tail, u, u_cells, u_width, u_records, t.m, near);
     }
