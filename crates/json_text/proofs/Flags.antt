@@ -192,7 +192,7 @@ module _ (s : List ℕ) (fs : Bytes s) where
   abbrev flags : ℕ → ℕ → ℕ
   flags n i = eachByte oddFlag n (packedAt n s i)
 
-  flags-next : (n i : ℕ) → flags (suc n) i ≡ flags n (i + 1) * 256 + oddFlag (byteAt s i)
+  pub flags-next : (n i : ℕ) → flags (suc n) i ≡ flags n (i + 1) * 256 + oddFlag (byteAt s i)
   unfolding eachByte packedAt
   flags-next n i = rw (digits-div (packedAt n s (i + 1)) (fs i .fits), digits-mod (packedAt n s (i + 1)) (fs i .fits))
 

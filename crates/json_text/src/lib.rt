@@ -209,7 +209,7 @@ fn bytes_end(s: &[u8], i: usize) -> usize
 // Which bytes of a number are no such bytes: the highest bit of each that is none. The sums are of the seven lower
 // bits of each byte, so that none carries into the next; they reach the highest bit at 0x7F, from 0x21 on, and at all
 // but the quote or the backslash.
-fn odd_bytes(x: u64) -> u64
+pub fn odd_bytes(x: u64) -> u64
     ensures { λ r. ⌜ r ≡ oddBytes x ⌝ }
 {
     let y = x & 0x7F7F7F7F7F7F7F7F;
@@ -239,7 +239,7 @@ fn stop_bytes(x: u64) -> u64
 }
 
 // Which byte of a number, from 0, holds its lowest bit; 8 for the number 0.
-fn first_byte(x: u64) -> usize
+pub fn first_byte(x: u64) -> usize
     ensures { λ r. ⌜ r ≡ firstByte x ⌝ }
 {
     (u64::trailing_zeros(x) as usize) / 8

@@ -1,4 +1,5 @@
 pub mod Opens
 pub mod Laws
+pub mod Alike
 pub mod Walk
 pub mod Cases
