@@ -1,16 +1,16 @@
 -- A field's name that is guessed: what decides whether a word stands between quotes, and that the field whose own name
 -- stands there is the one that is read.
 -- Assumes nothing.
-use Prim.Native.Nat.{ℕ, zero, suc, _+_, _-_, _≤_, _<_}
+use Prim.Native.Nat.{ℕ, zero, suc, _+_, _-_, _*_, _≤_, _<_}
 use mathlib.Core.Path.{_≡_, refl, sym, ap, _∙_}
-use mathlib.Core.Bool.{Bool, true, false, cond}
+use mathlib.Core.Bool.{Bool, true, false, cond, _&&_}
 use mathlib.Core.List.{List, [], _∷_}
 use native.Mathlib.Nat.{zero-add, not-suc-le-zero}
 use native.Mathlib.Omega.{arith}
-use borrow.Author.Tests.{eq-eqb, ne-eqb, lt-ltb, le-ltb, ltb-true, eqb-true, eqb-false}
-use lib.ListN.{length, take, drop}
+use borrow.Author.Tests.{eq-eqb, ne-eqb, lt-ltb, le-ltb, ltb-true, leb-true, eqb-true, eqb-false}
+use lib.ListN.{length, getD, take, drop}
 use lib.Seq.{getD-drop}
-use lib.Dec.{ltb, eqb, lit<}
+use lib.Dec.{ltb, leb, eqb, lit<}
 use Rattle.json_bytes.specs.Reads.{byteAt, leading}
 use Rattle.json_bytes.proofs.Laws.{either, inside, both-left, both-right}
 use Rattle.json_text.specs.Run.{isGraphic, runEnd, plainEnd}
@@ -19,11 +19,11 @@ use Rattle.json_same.specs.Same.{sameList}
 use Rattle.json_same.proofs.Laws.{same-equal}
 use Rattle.parts.specs.Part.{partOf}
 use Rattle.parts.proofs.Laws.{part-is}
-use Rattle.table_rows.specs.Rows.{nameStart, nameEnd, fieldNameAt, fieldsFrom}
+use Rattle.table_rows.specs.Rows.{cellAt, nameStart, nameEnd, fieldNameAt, fieldsFrom}
 use Rattle.table_name.specs.Name.{indexOf, nameAt}
 use Rattle.table_name.specs.Guess.{graphicWord, ownName, ownBelow, namesApart, quotedEnd, guessEnd}
 use Rattle.table_name.specs.declared.NameRead.the-variants.{Known, Unknown}
-use Rattle.table_name.proofs.Words.{name-plain}
+use Rattle.table_name.proofs.Words.{taken-long, name-plain}
 
 -- ---- a word of bytes that stand for themselves
 module _ (word : List ℕ) where
@@ -97,6 +97,38 @@ below-own rows names count k (suc n) e l =
 pub apart-own : (rows names : List ℕ) (count k : ℕ) → namesApart rows names count ≡ true → k < count → ownName rows names count k ≡ true
 unfolding namesApart
 apart-own rows names count k = below-own rows names count k count
+
+-- ---- where a name stands
+-- a part that has a byte is no turned or past one
+part-some : (s : List ℕ) (from to : ℕ) → 0 < length (partOf s from to) → (from < to) × (to ≤ length s)
+unfolding partOf
+part-some s from to h = go (leb from to) (leb to (length s)) refl refl h
+  where
+    go : (t u : Bool) → leb from to ≡ t → leb to (length s) ≡ u → 0 < length (cond (t && u) (take (to - from) (drop from s)) []) → (from < to) × (to ≤ length s)
+    go true true p q h =
+        let m : to ≤ length s = leb-true to (length s) q in
+        (omega (arith, taken-long s from to (leb-true from to p) m, h), m)
+    go true false p q h = absurd (not-suc-le-zero h)
+    go false u p q h = absurd (not-suc-le-zero h)
+
+-- a field that has a name has a whole row, and the name stands among the names
+module _ (rows names : List ℕ) (k : ℕ) where
+  pub record Placed : Type 0 where
+    pub row : k * 5 + 4 < length rows
+    pub forward : getD rows (k * 5 + 3) 0 ≤ getD rows (k * 5 + 4) 0
+    pub among : getD rows (k * 5 + 4) 0 ≤ length names
+
+  pub placed : 0 < length (fieldNameAt rows names k) → Placed
+  unfolding fieldNameAt cellAt
+  placed h =
+      let p = part-some names (getD rows (k * 5 + 3) 0) (getD rows (k * 5 + 4) 0) h in
+      record { row = inside rows (k * 5 + 4) (getD rows (k * 5 + 4) 0) refl (omega (arith, p .0)); forward = omega (arith, p .0); among = p .1 }
+
+  pub own-some : (count : ℕ) → ownName rows names count k ≡ true → 0 < length (fieldNameAt rows names k)
+  unfolding ownName
+  own-some count own =
+      let word = fieldNameAt rows names k in
+      graphic-some word (both-left (graphicWord word) (eqb (indexOf word (fieldsFrom rows names count 0)) k) own)
 
 -- ---- what decides whether a word stands between quotes
 module _ (word s : List ℕ) (at : ℕ) where

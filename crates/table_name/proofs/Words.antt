@@ -6,6 +6,8 @@ use mathlib.Core.Bool.{Bool, true, false, cond, _&&_}
 use mathlib.Core.List.{List, [], _∷_, map}
 use native.Mathlib.Numerals.{add-one}
 use native.Mathlib.Omega.{arith}
+use mir.Syntax.{w32, w64}
+use mir.Val.{Fits}
 use borrow.Author.Tests.{eq-eqb, ne-eqb, leb-true}
 use lib.ListN.{length, getD, take, drop, drop-of-length-le, length-drop, List·getD-eq-default}
 use lib.Seq.{drop-cons, length-take-le}
@@ -61,6 +63,14 @@ same-kept : (xs ys : List ℕ) → sameAs Kept xs ys ≡ sameList xs ys
 unfolding sameAs
 same-kept xs ys = rw (kept-all xs, kept-all ys)
 
+-- a part is as long as its places say
+pub taken-long : (s : List ℕ) (from to : ℕ) → from ≤ to → to ≤ length s → length (take (to - from) (drop from s)) ≡ to - from
+taken-long s from to l m = length-take-le (to - from) (drop from s) (rw (length-drop from s) (omega arith))
+
+-- a number of a row is a place
+pub place-fits : {x : ℕ} → Fits w32 x → Fits w64 x
+place-fits f = record { fits = omega (arith, f .fits) }
+
 -- a word and a part of the names: of another length than its places say, or compared
 module _ (word names : List ℕ) (from to : ℕ) where
   word-apart : 0 < length word → (to - from ≡ length word → ⊥) → sameAs Kept word (partOf names from to) ≡ false
@@ -71,9 +81,9 @@ module _ (word names : List ℕ) (from to : ℕ) where
     where
       long : (leb from to && leb to (length names)) ≡ true → length (take (to - from) (drop from names)) ≡ to - from
       long t =
-          let l : from ≤ to = leb-true from to (both-left (leb from to) (leb to (length names)) t) in
-          let m : to ≤ length names = leb-true to (length names) (both-right (leb from to) (leb to (length names)) t) in
-          length-take-le (to - from) (drop from names) (rw (length-drop from names) (omega arith))
+          taken-long names from to
+          (leb-true from to (both-left (leb from to) (leb to (length names)) t))
+          (leb-true to (length names) (both-right (leb from to) (leb to (length names)) t))
 
   word-compared : (name : List ℕ) (t : Bool) → name ≡ partOf names from to → t ≡ sameList word name → t ≡ sameAs Kept word (partOf names from to)
   word-compared name t isName isSame = isSame ∙ ap (sameList word) isName ∙ sym (same-kept word (partOf names from to))
@@ -100,7 +110,7 @@ module _ (word rows names : List ℕ) (k : ℕ) where
 pub plain-word : (s : List ℕ) (at j : ℕ) → j ≡ plainEnd s at → 0 < j → (word : List ℕ) → word ≡ partOf s (at + 1) j → 0 < length word
 plain-word s at j is h word isWord =
     let around = plain-inside s at j is h in
-    rw (isWord, part-is s (at + 1) j (omega (arith, around .0)) (omega (arith, around .1)), length-take-le (j - (at + 1)) (drop (at + 1) s) (rw (length-drop (at + 1) s) (omega (arith, around .0, around .1)))) (omega (arith, around .0))
+    rw (isWord, part-is s (at + 1) j (omega (arith, around .0)) (omega (arith, around .1)), taken-long s (at + 1) j (omega (arith, around .0)) (omega (arith, around .1))) (omega (arith, around .0))
 
 module _ (s : List ℕ) (at : ℕ) (rows names : List ℕ) (count index end : ℕ) (n : NameRead) (isKnown : n ≡ cond (ltb index count) (Known index end) (Unknown 13 at)) where
   named : textAt s at ≡ Whole end → index ≡ indexOf (charsAt s at) (fieldsFrom rows names count 0) → n ≡ nameAt (fieldsFrom rows names count 0) s at

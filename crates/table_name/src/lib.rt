@@ -282,13 +282,15 @@ fn quoted_end(s: &[u8], at: usize, word: &[u8]) -> usize
     0
 }
 
-// The place behind field k's name, where that stands at `at` between quotes; 0 where it does not.
+// The place behind field k's name, where that stands at `at` between quotes; 0 where it does not. A field that has a
+// name has a whole row, and its name stands among the names, so nothing of that is tested here.
 pub fn guess_end(s: &[u8], at: usize, rows: &[u32], names: &[u8], k: usize) -> usize
+    requires { ⌜ 0 < length (fieldNameAt (now rows) (now names) k) ⌝ }
     ensures { λ r. ⌜ r ≡ guessEnd (now (rows .entry)) (now (names .entry)) (now (s .entry)) at k ⌝ }
 {
-    let from = name_start(rows, k);
-    let to = name_end(rows, k);
-    quoted_end(s, at, part(names, from, to))
+    let from = rows[k * 5 + 3] as usize;
+    let to = rows[k * 5 + 4] as usize;
+    quoted_end(s, at, &names[from..to])
 }
 
 // ---- A field that a name's bytes hint at

@@ -14,7 +14,7 @@ use Rattle.json_bytes.specs.declared.Reading.{Reading}
 use Rattle.json_bytes.specs.declared.Reading.the-variants.{Whole, Fault}
 use Rattle.json_bytes.proofs.Laws.{both-left, both-right}
 use Rattle.json_bytes.proofs.Bounds.{Within}
-use Rattle.table_rows.specs.Rows.{Field, typeAt, fieldAt, fieldsFrom}
+use Rattle.table_rows.specs.Rows.{Field, typeAt, fieldNameAt, fieldAt, fieldsFrom}
 use Rattle.table_rows.proofs.Laws.{fields-length, fields-at}
 use Rattle.table_name.specs.Name.{nameAt, colonAt, firstIn, nextAfter}
 use Rattle.table_name.specs.declared.NameRead.{NameRead}
@@ -22,7 +22,7 @@ use Rattle.table_name.specs.declared.NameRead.the-variants.{Known, Unknown}
 use Rattle.table_name.specs.declared.Next.{Next}
 use Rattle.table_name.specs.declared.Next.the-variants.{More, Ends, Neither}
 use Rattle.table_name.specs.Guess.{namesApart, guessEnd}
-use Rattle.table_name.proofs.Guess.{guess-right, apart-own}
+use Rattle.table_name.proofs.Guess.{own-some, apart-own, guess-right}
 use Rattle.table_value.specs.Value.{valueAt}
 use Rattle.table_value.specs.declared.ValueRead.{ValueRead}
 use Rattle.table_value.specs.declared.ValueRead.the-variants.{Held, Null, Bad}
@@ -113,6 +113,10 @@ module _ (s : List ℕ) (start ty : ℕ) (v : ValueRead) (isValue : v ≡ valueA
 -- ---- a name and its value
 pub colon-told : (s : List ℕ) (end : ℕ) (r : Reading) → r ≡ colonAt s end → end ≤ length s → Within s end r
 colon-told s end r e l = rw e (colon-in s end l)
+
+-- where names are told apart by their bytes, each has some
+pub guess-named : (rows names : List ℕ) (count k : ℕ) → namesApart rows names count ≡ true → k < count → 0 < length (fieldNameAt rows names k)
+guess-named rows names count k apart l = own-some rows names k count (apart-own rows names count k apart l)
 
 -- a guessed field whose name stands there, where the names are apart, is the one that the name is
 pub name-guessed : (rows names s : List ℕ) (count at k end : ℕ) → namesApart rows names count ≡ true → k < count → end ≡ guessEnd rows names s at k → 0 < end → Known k end ≡ nameAt (fieldsFrom rows names count 0) s at

@@ -4,14 +4,11 @@ use native.Mathlib.Omega.{arith}
 use mir.Syntax.{w32, w64}
 use mir.Val.{Fits}
 use borrow.Author.Needs.{needs}
-use Rattle.table_name.proofs.Words.{row-none, row-apart, row-compared}
+use Rattle.table_name.proofs.Words.{place-fits, row-none, row-apart, row-compared}
 use Rattle.table_name.proofs.is_field.Statement.{statement}
 use Rattle.table_name.proofs.is_field.Tie as tie
 
--- a number of a row is a place, and a word's length behind it too
-place-fits : {x : ℕ} → Fits w32 x → Fits w64 x
-place-fits f = record { fits = omega (arith, f .fits) }
-
+-- a word's length behind a place is a place too
 end-fits : {x n : ℕ} → Fits w32 x → n < 2 ^ 63 → Fits w64 (x + n)
 end-fits f l = record { fits = omega (arith, f .fits) }
 
