@@ -3,14 +3,13 @@
 -- Assumes nothing.
 use Prim.Native.Nat.{ℕ, _+_, _-_, _≤_, _<_}
 use mathlib.Core.Path.{_≡_, refl, sym, ap, _∙_}
-use mathlib.Core.Bool.{Bool, true, false, cond, _&&_}
-use mathlib.Core.List.{List, [], _++_}
-use native.Mathlib.Nat.{not-suc-le-zero}
+use mathlib.Core.Bool.{Bool, true, false}
+use mathlib.Core.List.{List, _++_}
 use native.Mathlib.Omega.{arith}
 use borrow.Author.Tests.{ltb-true, ltb-false, eqb-true, eqb-false}
 use lib.ListN.{length, take, drop, length-drop, take-append-drop, List·getD-append}
 use lib.Seq.{drop-drop, getD-drop, take-append-le, drop-append-le}
-use lib.Dec.{ltb, leb, eqb, lit<}
+use lib.Dec.{ltb, eqb, lit<}
 use Rattle.json_bytes.specs.Reads.{byteAt}
 use Rattle.json_bytes.proofs.Laws.{inside}
 use Rattle.json_chars.specs.Chars.{charsAt}
@@ -23,7 +22,6 @@ use Rattle.json_text.proofs.Plain.{plain-unopened, plain-empty, plain-goes-on}
 use Rattle.json_same.specs.Same.{sameList}
 use Rattle.json_same.specs.declared.Case.the-variants.{Folded}
 use Rattle.json_same.proofs.Laws.{same-equal, same-refl}
-use Rattle.parts.specs.Part.{partOf}
 use Rattle.rule_cells.specs.Cells.{table, startOf}
 use Rattle.rule_target.specs.Target.{targetOf}
 use Rattle.ordered_target.proofs.Laws.{seen}
@@ -69,23 +67,13 @@ module _ (a : List ℕ) (some : 0 < plainEnd a 0) where
         let behind : drop (at + 1) s ≡ drop 1 a ++ rest = sym (drop-drop 1 at s) ∙ ap (drop 1) there ∙ drop-append-le 1 a rest (omega (arith, within-bytes)) in
         chars-plain s at (at + close) first (omega (arith, goes-on)) own-there last ∙ rw (long, behind) (take-append-le (close - 1) (drop 1 a) rest (omega (arith, within-bytes, length-drop 1 a)))
 
--- ---- a part that is not empty stands where it begins
-part-there : (s : List ℕ) (from to : ℕ) → 0 < length (partOf s from to) → drop from s ≡ partOf s from to ++ drop (to - from) (drop from s)
-unfolding partOf
-part-there s from to = go (leb from to && leb to (length s))
-  where
-    go : (t : Bool) → 0 < length (cond t (take (to - from) (drop from s)) []) → drop from s ≡ cond t (take (to - from) (drop from s)) [] ++ drop (to - from) (drop from s)
-    go true h = sym (take-append-drop (to - from) (drop from s))
-    go false h = absurd (not-suc-le-zero h)
+-- ---- the bytes that a list has from a place on
+text-of-bytes : (a s : List ℕ) (from k : ℕ) (some : 0 < plainEnd a 0) → a ≡ take k (drop from s) → charsAt s from ≡ take (close a some - 1) (drop 1 a)
+text-of-bytes a s from k some is = text-there a some s (drop k (drop from s)) from (rw is (sym (take-append-drop k (drop from s))))
 
-text-of-part : (a s : List ℕ) (from to : ℕ) (some : 0 < plainEnd a 0) → a ≡ partOf s from to → charsAt s from ≡ take (close a some - 1) (drop 1 a)
-text-of-part a s from to some is =
-    let long : 0 < length a = omega (arith, within-bytes a some) in
-    text-there a some s (drop (to - from) (drop from s)) from (rw (← is) at (part-there s from to (rw is at long)))
-
--- the same part of two tables, with such a string in it
-pub copy-seen : (s : List ℕ) (at end : ℕ) (u cells : List ℕ) (width n m q start stop j : ℕ) (a b : List ℕ) → q < n → start ≡ startOf cells width q m → a ≡ partOf s at end → b ≡ partOf u start stop → sameList a b ≡ true → j ≡ plainEnd a 0 → 0 < j → eqb (targetOf (charsAt s at) (table u cells width n) m) 0 ≡ false
-copy-seen s at end u cells width n m q start stop j a b l isStart isA isB same isEnd h =
+-- the same bytes in two tables, with such a string in them
+pub copy-seen : (s : List ℕ) (at k : ℕ) (u cells : List ℕ) (width n m q start l j : ℕ) (a b : List ℕ) → q < n → start ≡ startOf cells width q m → a ≡ take k (drop at s) → b ≡ take l (drop start u) → sameList a b ≡ true → j ≡ plainEnd a 0 → 0 < j → eqb (targetOf (charsAt s at) (table u cells width n) m) 0 ≡ false
+copy-seen s at k u cells width n m q start l j a b inTable isStart isA isB same isEnd h =
     let some : 0 < plainEnd a 0 = rw isEnd at h in
-    let texts : charsAt s at ≡ charsAt u start = text-of-part a s at end some isA ∙ sym (text-of-part a u start stop some (same-equal a b same ∙ isB)) in
-    seen (charsAt s at) u cells width n m q start l isStart (rw texts (same-refl Folded (charsAt u start)))
+    let texts : charsAt s at ≡ charsAt u start = text-of-bytes a s at k some isA ∙ sym (text-of-bytes a u start l some (same-equal a b same ∙ isB)) in
+    seen (charsAt s at) u cells width n m q start inTable isStart (rw texts (same-refl Folded (charsAt u start)))

@@ -34,7 +34,6 @@ use key_lookup::place_of;
 use key_order::key_order;
 use key_sum::beginning_of;
 use key_sum::key_sum;
-use parts::part;
 use rule_cells::is_given;
 use rule_cells::start_of;
 use rule_target::Target;
@@ -60,9 +59,9 @@ fn end_of(cells: &[u32], width: usize, r: usize, k: usize) -> usize
 }
 
 // Whether record q of the target table is seen, by its bytes alone, to have the text from `at` up to `end`: the
-// same bytes stand for its value, and they begin with a string in which each byte is a character by itself. So no
-// character is decoded or folded. Of bytes that are no whole string the same ones would tell nothing: the text would
-// go on behind them.
+// same bytes stand where its value starts, and they begin with a string in which each byte is a character by itself. So
+// no character is decoded or folded, and where its value ends is not asked. Of bytes that are no whole string the same
+// ones would tell nothing: the text would go on behind them.
 fn is_copy(
     s: &[u8],
     at: usize,
@@ -76,13 +75,26 @@ fn is_copy(
 ) -> bool
     ensures { λ x. ⌜ (x ≡ true → eqb (targetOf (charsAt (now (s .entry)) at) (table (now (u .entry)) (now («u_cells» .entry)) «u_width» «u_records») m) 0 ≡ false) ⌝ }
 {
-    if q < u_records {
-        let text = part(s, at, end);
-        let start = start_of(u_cells, u_width, q, m);
-        let target = part(u, start, end_of(u_cells, u_width, q, m));
-        if same_bytes(text, target) {
-            return 0 < plain_end(text, 0);
-        }
+    if u_records <= q {
+        return false;
+    }
+    if s.len() < end {
+        return false;
+    }
+    if end < at {
+        return false;
+    }
+    let n = end - at;
+    if u.len() < n {
+        return false;
+    }
+    let start = start_of(u_cells, u_width, q, m);
+    if u.len() - n < start {
+        return false;
+    }
+    let text = &s[at..end];
+    if same_bytes(text, &u[start..start + n]) {
+        return 0 < plain_end(text, 0);
     }
     false
 }

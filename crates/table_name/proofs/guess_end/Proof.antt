@@ -9,7 +9,6 @@ use Rattle.table_name.proofs.Words.{place-fits}
 use Rattle.table_name.proofs.guess_end.Statement.{statement}
 use Rattle.table_name.proofs.guess_end.Tie as tie
 
-
 mul-from : tie.Need-mul-from
 mul-from c = omega (arith, placed _ _ _ (c .before .before .before .pre) .row)
 
