@@ -6,6 +6,7 @@ ghost use Prim.Native.Nat.{_≤_, _<_, _^_};
 ghost use lib.ListN.{length};
 ghost use lib.Dec.{eqb};
 ghost use Rattle.json_bytes.specs.Reads.{literalAt};
+ghost use Rattle.json_text.specs.Run.{plainEnd};
 ghost use Rattle.json_text.specs.Text.{textRead};
 ghost use Rattle.json_number.specs.Number.{numberAt};
 ghost use Rattle.json_date.specs.Plain.{isPlainDate};
@@ -115,8 +116,20 @@ fn is_date_there(s: &[u8], at: usize, ty: u32) -> bool
     false
 }
 
-// Most dates are told by their twelve bytes, and most other strings hold only bytes that are characters
-// by themselves and break no rule: neither needs its characters read one by one.
+// The place of the closing quote of a string that holds only bytes which are characters by themselves and break
+// no rule; 0 for any other, and for each in a field of type String: those are names and the like, most have a
+// space, and looking for it first would go through the first word twice.
+fn plain_close(s: &[u8], at: usize, ty: u32) -> usize
+    ensures { λ r. ⌜ (0 < r → r ≡ plainEnd (now (s .entry)) at) ⌝ }
+{
+    if ty == STRING {
+        return 0;
+    }
+    plain_end(s, at)
+}
+
+// Most dates are told by their twelve bytes, and most IDs hold only bytes that are characters by themselves and
+// break no rule: neither needs its characters read one by one.
 fn string_value(s: &[u8], at: usize, ty: u32) -> ValueRead
     requires { ⌜ at < length (now s) ⌝ }
     ensures { λ r. ⌜ r ≡ stringValue (now (s .entry)) at ty (textRead (textType ty) (now (s .entry)) at) ⌝ }
@@ -124,7 +137,7 @@ fn string_value(s: &[u8], at: usize, ty: u32) -> ValueRead
     if is_date_there(s, at, ty) {
         return ValueRead::Held { end: at + 12 };
     }
-    let close = plain_end(s, at);
+    let close = plain_close(s, at, ty);
     if 0 < close {
         return string_in(s, at, ty, close + 1, Wrong { rule: 0, place: 0 });
     }

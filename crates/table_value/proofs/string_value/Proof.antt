@@ -20,18 +20,18 @@ add-t12 c = omega (arith, plain-date-inside (now (c .before .before .before .arg
 returns : tie.Need-returns
 returns c = sym (plain-date-held _ _ _ (sym (c .before .is-date-there .ensures) ∙ c .if1 .taken))
 
-plain-end-requires : tie.Need-plain-end-requires
-plain-end-requires c κs = search needs
+plain-close-requires : tie.Need-plain-close-requires
+plain-close-requires c κs = search needs
 
 add-string-in : tie.Need-add-string-in
-add-string-in c = omega (arith, plain-inside _ _ _ (c .before .plain-end .ensures) (c .if2 .taken) .1)
+add-string-in c = omega (arith, plain-inside _ _ _ (c .before .plain-close .ensures (c .if2 .taken)) (c .if2 .taken) .1)
 
 string-in-requires : tie.Need-string-in-requires
 string-in-requires c κs = search needs
 
 returns-2 : tie.Need-returns-2
 unfolding stringValue
-returns-2 c = rw (plain-read _ _ _ (c .before .before .plain-end .ensures) (c .before .if2 .taken) (textType _)) (c .string-in .ensures)
+returns-2 c = rw (plain-read _ _ _ (c .before .before .plain-close .ensures (c .before .if2 .taken)) (c .before .if2 .taken) (textType _)) (c .string-in .ensures)
 
 text-type-requires : tie.Need-text-type-requires
 text-type-requires c κs = search needs
@@ -63,7 +63,7 @@ string-value-spec =
     is-date-there-requires
     add-t12
     returns
-    plain-end-requires
+    plain-close-requires
     add-string-in
     string-in-requires
     returns-2
