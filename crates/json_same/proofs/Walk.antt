@@ -27,8 +27,9 @@ use Rattle.json_same.specs.declared.Pair.the-variants.{Same, Apart}
 use Rattle.json_same.specs.declared.Run.{Run}
 use Rattle.json_same.specs.declared.Run.the-variants.{Differs, Stops}
 use Rattle.json_same.specs.Same.{casedAs, sameList, sameAs, isPlain}
-use Rattle.json_same.specs.Walk.{beginning, isEnd, runFrom}
+use Rattle.json_same.specs.Walk.{Alike, beginning, isEnd, runFrom}
 use Rattle.json_same.proofs.Pairs.{Plain, same-told, apart-told, At, run-on, run-parts}
+use Rattle.json_same.proofs.Alike.{behind-alike}
 
 -- ---- where the characters begin
 -- past the last byte there is none
@@ -175,6 +176,12 @@ module _ (case : Case) (a b : List ℕ) (whole : Bool) where
 
     pub both-part : r ≡ Differs → whole ≡ false
     both-part = run-parts case a x b y (λ u v. Both case a u b v whole) (whole ≡ false) both-same both-apart w r is
+
+  -- bytes that are alike, passed at once: the same byte is the same character, as it is compared in either case
+  pub both-alike : (x y : ℕ) → Both case a x b y whole → (n : ℕ) → Alike a x b y n → Both case a (x + n) b (y + n) whole
+  both-alike =
+      behind-alike a b (λ u v. Both case a u b v whole)
+      (λ u v e t w. both-more case a u b v whole w _ _ (plain-step a u _ refl t) _ _ (plain-step b v _ e t) refl)
 
 -- ---- and along a string and what is left of a word
 pub record Worded (case : Case) (s : List ℕ) (i : ℕ) (word : List ℕ) (k : ℕ) (whole : Bool) : Type 0 where

@@ -1,5 +1,6 @@
 -- For the code's sake alone: what a walk along one string or two asks at each place.
-use Prim.Native.Nat.{ℕ, _+_}
+use Prim.Native.Nat.{ℕ, _+_, _≤_, _<_}
+use mathlib.Core.Path.{_≡_}
 use mathlib.Core.Bool.{Bool, true, false, cond, _&&_}
 use mathlib.Core.List.{List, [], _∷_}
 use lib.ListN.{length}
@@ -36,3 +37,12 @@ unfoldable pub runFrom : Case → ℕ → List ℕ → List ℕ → Run
 runFrom case n [] qs = Stops n
 runFrom case n (p ∷ ps) [] = Stops n
 runFrom case n (p ∷ ps) (q ∷ qs) = elim (pairOf case p q) [ Same ↦ runFrom case (n + 1) ps qs | Apart ↦ Differs | Other ↦ Stops n ]
+
+-- ---- Along two strings, eight bytes at a time
+-- r bytes, eight at most, that stand from two places on: the same in both, and each stands for itself inside a string
+pub record Alike (a : List ℕ) (x : ℕ) (b : List ℕ) (y r : ℕ) : Type 0 where
+  pub few : r ≤ 8
+  pub here : x + r ≤ length a
+  pub there : y + r ≤ length b
+  pub same : (k : ℕ) → k < r → byteAt a (x + k) ≡ byteAt b (y + k)
+  pub plain : (k : ℕ) → k < r → isPlain (byteAt a (x + k)) ≡ true

@@ -4,13 +4,17 @@ ghost use mathlib.Core.Path.{_≡_};
 ghost use mathlib.Core.Bool.{_&&_};
 ghost use mathlib.Core.Logic.{_⊎_};
 ghost use Prim.Native.Nat.{_≤_};
+ghost use lib.ListN.{length};
 ghost use Rattle.json_chars.specs.Chars.{charsAt};
 ghost use Rattle.json_same.specs.Same.{casedAs, sameAs, isPlain};
-ghost use Rattle.json_same.specs.Walk.{beginning, isEnd, pairOf, runFrom};
+ghost use Rattle.json_same.specs.Walk.{Alike, beginning, isEnd, pairOf, runFrom};
 use json_bytes::byte_at;
+use json_bytes::eight_at;
 use json_bytes::is_within;
 use json_chars::Step;
 use json_chars::step_at;
+use json_text::first_byte;
+use json_text::odd_bytes;
 
 // How letters are compared: names as they are, IDs and enumeration values with A–Z folded to a–z.
 pub enum Case {
@@ -146,13 +150,33 @@ fn run_of(s: &[u8], t: &[u8], case: Case) -> Run
     Run::Stops { n: k }
 }
 
-// Whether the strings at two places have the same characters.
+// How many of the next eight bytes are the same in both and stand for themselves: those before the
+// first in which the two differ, or that is odd; a space is. 0 where either has not so many left.
+pub fn alike_at(a: &[u8], x: usize, b: &[u8], y: usize) -> usize
+    requires { ⌜ (x ≤ length (now a)) × (y ≤ length (now b)) ⌝ }
+    ensures { λ r. ⌜ Alike (now (a .entry)) x (now (b .entry)) y r ⌝ }
+{
+    if a.len() < x + 8 {
+        return 0;
+    }
+    if b.len() < y + 8 {
+        return 0;
+    }
+    let p = eight_at(a, x);
+    first_byte((p ^ eight_at(b, y)) | odd_bytes(p))
+}
+
+// Whether the strings at two places have the same characters. A turn passes up to eight bytes that
+// are the same at once, as many as a short ID has; a run of bytes goes on from there.
 pub fn same_text(a: &[u8], i: usize, b: &[u8], j: usize, case: Case) -> bool
     ensures { λ r. ⌜ r ≡ sameAs case (charsAt (now (a .entry)) i) (charsAt (now (b .entry)) j) ⌝ }
 {
     let mut x = beginning_of(a, i);
     let mut y = beginning_of(b, j);
     loop {
+        let m = alike_at(a, x, b, y);
+        x += m;
+        y += m;
         let Run::Stops { n } = run_of(&a[x..], &b[y..], case) else {
             return false;
         };

@@ -1,5 +1,4 @@
 pub mod Opens
 pub mod Laws
-pub mod Alike
 pub mod Walk
 pub mod Cases

@@ -1,5 +1,5 @@
 -- `json_same::same_text` meets its contract: comparing what is left of the two strings answers as comparing the whole of them.
-use Prim.Native.Nat.{_+_, _-_}
+use Prim.Native.Nat.{ℕ, _+_, _-_}
 use mathlib.Core.Path.{sym, _∙_}
 use native.Mathlib.Omega.{arith}
 use borrow.Author.Needs.{needs}
@@ -7,7 +7,7 @@ use lib.ListN.{length}
 use denote.Ref.{now}
 use Rattle.json_chars.specs.Chars.{charsAt}
 use Rattle.json_same.specs.Same.{sameAs}
-use Rattle.json_same.proofs.Walk.{Both, goes-on, end-by-tag, both-start, both-end, both-longer, both-more, both-differ, both-on, both-part}
+use Rattle.json_same.proofs.Walk.{Both, goes-on, end-by-tag, both-start, both-end, both-longer, both-more, both-differ, both-on, both-part, both-alike}
 use Rattle.json_same.proofs.same_text.Statement.{statement}
 use Rattle.json_same.proofs.same_text.Tie as tie
 
@@ -26,20 +26,37 @@ beginning-of-requires-2 c κs = search needs
 loop-holds : tie.Need-loop-holds Inv-loop μ-loop
 loop-holds c = both-start _ _ _ _ _ _ _ (c .before .beginning-of .ensures) (c .beginning-of2 .ensures)
 
+alike-at-requires : tie.Need-alike-at-requires Inv-loop μ-loop
+alike-at-requires c κs = (c .loop .inv .against .left .inside, c .loop .inv .left .inside)
+
+-- what is left from two places on, in a turn
+abbrev Left-from : tie.At-loop Inv-loop μ-loop → ℕ → ℕ → Type 0
+Left-from c x y = Both (c .before .before .before .before .before .args .case) (now (c .before .before .before .before .before .args .a)) x (now (c .before .before .before .before .before .args .b)) y (sameAs (c .before .before .before .before .before .args .case) (charsAt (now (c .before .before .before .before .before .args .a)) (c .before .before .before .before .before .args .i)) (charsAt (now (c .before .before .before .before .before .args .b)) (c .before .before .before .before .before .args .j)))
+
+-- behind the bytes that are alike
+passed : (c : tie.After-alike-at Inv-loop μ-loop) → Left-from (c .before) (c .before .loop .x + c .alike-at .result) (c .before .loop .y + c .alike-at .result)
+passed c = both-alike _ _ _ _ _ _ (c .before .loop .inv) _ (c .alike-at .ensures)
+
+add-x : tie.Need-add-x Inv-loop μ-loop
+add-x c = omega (arith, c .alike-at .ensures .here)
+
+add-y : tie.Need-add-y Inv-loop μ-loop
+add-y c = omega (arith, c .alike-at .ensures .there)
+
 sub-run-of : tie.Need-sub-run-of Inv-loop μ-loop
-sub-run-of c = omega (arith, c .loop .inv .against .left .inside)
+sub-run-of c = omega (arith, passed c .against .left .inside)
 
 part-run-of-start : tie.Need-part-run-of-start Inv-loop μ-loop
-part-run-of-start c = omega (arith, c .loop .inv .against .left .inside)
+part-run-of-start c = omega (arith, passed c .against .left .inside)
 
 part-run-of-end : tie.Need-part-run-of-end Inv-loop μ-loop
 part-run-of-end c = omega arith
 
 sub-run-of-2 : tie.Need-sub-run-of-2 Inv-loop μ-loop
-sub-run-of-2 c = omega (arith, c .before .loop .inv .left .inside)
+sub-run-of-2 c = omega (arith, passed (c .before) .left .inside)
 
 part-run-of-start-2 : tie.Need-part-run-of-start-2 Inv-loop μ-loop
-part-run-of-start-2 c = omega (arith, c .before .loop .inv .left .inside)
+part-run-of-start-2 c = omega (arith, passed (c .before) .left .inside)
 
 part-run-of-end-2 : tie.Need-part-run-of-end-2 Inv-loop μ-loop
 part-run-of-end-2 c = omega arith
@@ -54,17 +71,17 @@ enum-told : tie.Need-enum-told Inv-loop μ-loop
 enum-told c = search needs
 
 returns : tie.Need-returns Inv-loop μ-loop
-returns c = sym (both-part _ _ _ _ _ _ (c .before .before .before .before .before .loop .inv) _ (c .before .before .run-of .ensures) (c .enum-told .given .1))
+returns c = sym (both-part _ _ _ _ _ _ (passed (c .before .before .before .before .before)) _ (c .before .before .run-of .ensures) (c .enum-told .given .1))
 
 -- behind the run the same is left to compare
-ran : (c : tie.After-known-told Inv-loop μ-loop) → Both (c .before .before .before .before .before .before .before .before .before .before .before .args .case) (now (c .before .before .before .before .before .before .before .before .before .before .before .args .a)) (c .before .before .before .before .before .before .loop .x + c .before .n .given .0 .0) (now (c .before .before .before .before .before .before .before .before .before .before .before .args .b)) (c .before .before .before .before .before .before .loop .y + c .before .n .given .0 .0) (sameAs (c .before .before .before .before .before .before .before .before .before .before .before .args .case) (charsAt (now (c .before .before .before .before .before .before .before .before .before .before .before .args .a)) (c .before .before .before .before .before .before .before .before .before .before .before .args .i)) (charsAt (now (c .before .before .before .before .before .before .before .before .before .before .before .args .b)) (c .before .before .before .before .before .before .before .before .before .before .before .args .j)))
-ran c = both-on _ _ _ _ _ _ (c .before .before .before .before .before .before .loop .inv) _ (c .before .before .before .run-of .ensures) _ (c .before .n .given .1)
+ran : (c : tie.After-known-told Inv-loop μ-loop) → Left-from (c .before .before .before .before .before .before .before) (c .before .before .before .before .before .before .before .loop .x + c .before .before .before .before .before .before .alike-at .result + c .before .n .given .0 .0) (c .before .before .before .before .before .before .before .loop .y + c .before .before .before .before .before .before .alike-at .result + c .before .n .given .0 .0)
+ran c = both-on _ _ _ _ _ _ (passed (c .before .before .before .before .before .before)) _ (c .before .before .before .run-of .ensures) _ (c .before .n .given .1)
 
-add-x : tie.Need-add-x Inv-loop μ-loop
-add-x c = omega (arith, ran c .against .left .inside)
+add-x-2 : tie.Need-add-x-2 Inv-loop μ-loop
+add-x-2 c = omega (arith, ran c .against .left .inside)
 
-add-y : tie.Need-add-y Inv-loop μ-loop
-add-y c = omega (arith, ran c .left .inside)
+add-y-2 : tie.Need-add-y-2 Inv-loop μ-loop
+add-y-2 c = omega (arith, ran c .left .inside)
 
 step-at-requires : tie.Need-step-at-requires Inv-loop μ-loop
 step-at-requires c κs = search needs
@@ -121,6 +138,9 @@ same-text-spec =
     beginning-of-requires
     beginning-of-requires-2
     loop-holds
+    alike-at-requires
+    add-x
+    add-y
     sub-run-of
     part-run-of-start
     part-run-of-end
@@ -131,8 +151,8 @@ same-text-spec =
     enum-known-n
     enum-told
     returns
-    add-x
-    add-y
+    add-x-2
+    add-y-2
     step-at-requires
     enum-known-code
     step-at-requires-2
