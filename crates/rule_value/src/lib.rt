@@ -1,21 +1,23 @@
 // Rules on one field of a record: an enumeration's value, null unless a condition holds, given if
 // one does.
 ghost use mathlib.Core.Path.{_≡_};
+ghost use mathlib.Core.Bool.{true};
 ghost use Prim.Native.Nat.{_+_, _<_};
 ghost use lib.Dec.{ltb};
-ghost use Rattle.json_same.specs.Same.{sameList};
 ghost use Rattle.table_rows.specs.Rows.{valueTextAt};
+ghost use Rattle.table_name.specs.Guess.{quotedEnd};
 ghost use Rattle.rule_cells.specs.Cells.{table};
+ghost use Rattle.rule_value.specs.Plain.{PlainValues};
 ghost use Rattle.rule_value.specs.Value.{isOneOf, breaksField, fieldRule};
 ghost use Rattle.rule_value.specs.declared.FieldRule.the-variants.{OneOf};
-use json_text::plain_end;
 use parts::part;
 use rule_cells::is_given;
 use rule_cells::start_of;
 use rule_when::When;
 use rule_when::holds_when;
 use rule_when::is_value;
-use table_name::same_bytes;
+use table_name::is_graphic_word;
+use table_name::quoted_end;
 use table_rows::value_end;
 use table_rows::value_start;
 
@@ -55,38 +57,57 @@ fn which_of(
     n
 }
 
-// Whether a word is value v of the enumeration values, letter for letter.
-fn is_spelled(word: &[u8], places: &[u32], texts: &[u8], v: usize) -> bool
-    ensures { λ x. ⌜ x ≡ sameList (now (word .entry)) (valueTextAt (now (places .entry)) (now (texts .entry)) v) ⌝ }
+// Whether each of the `count` values from number `first` on is a word that stands in a file by its bytes alone.
+fn are_plain(places: &[u32], texts: &[u8], first: u32, count: u32) -> bool
+    ensures { λ x. ⌜ (x ≡ true → PlainValues (now (places .entry)) (now (texts .entry)) first count) ⌝ }
+{
+    let from = first as usize;
+    let n = count as usize;
+    let mut i = 0;
+    while i < n {
+        let start = value_start(places, from + i);
+        let end = value_end(places, from + i);
+        if !is_graphic_word(part(texts, start, end)) {
+            return false;
+        }
+        i += 1;
+    }
+    true
+}
+
+// Whether value v of the enumeration values stands at `at` between quotes, letter for letter.
+fn is_quoted(s: &[u8], at: usize, places: &[u32], texts: &[u8], v: usize) -> bool
+    ensures { λ x. ⌜ x ≡ ltb 0 (quotedEnd (valueTextAt (now (places .entry)) (now (texts .entry)) v) (now (s .entry)) at) ⌝ }
 {
     let from = value_start(places, v);
     let to = value_end(places, v);
-    same_bytes(word, part(texts, from, to))
+    0 < quoted_end(s, at, part(texts, from, to))
 }
 
-// Which of the `count` values from number `first` on a word is, letter for letter; `count` where it is spelled as
-// none of them: of such a word nothing is told, for it may be one in other case. The value `guess` is tried first
-// if it is one of them.
-fn spelled_of(
-    word: &[u8],
+// Which of the `count` values from number `first` on stands at `at` between quotes; `count` where none does: of what
+// stands there nothing is told then, for it may be one in other case. The value `guess` is tried first if it is one
+// of them.
+fn quoted_of(
+    s: &[u8],
+    at: usize,
     places: &[u32],
     texts: &[u8],
     first: u32,
     count: u32,
     guess: usize,
 ) -> usize
-    ensures { λ x. ⌜ (x < count → valueTextAt (now (places .entry)) (now (texts .entry)) (first + x) ≡ now (word .entry)) ⌝ }
+    ensures { λ x. ⌜ (x < count → 0 < quotedEnd (valueTextAt (now (places .entry)) (now (texts .entry)) (first + x)) (now (s .entry)) at) ⌝ }
 {
     let from = first as usize;
     let n = count as usize;
     if guess < n {
-        if is_spelled(word, places, texts, from + guess) {
+        if is_quoted(s, at, places, texts, from + guess) {
             return guess;
         }
     }
     let mut i = 0;
     while i < n {
-        if is_spelled(word, places, texts, from + i) {
+        if is_quoted(s, at, places, texts, from + i) {
             return i;
         }
         i += 1;
@@ -95,7 +116,8 @@ fn spelled_of(
 }
 
 // As which_of, the value `last` tried first if it is one of them. Most values are written plainly and spelled as
-// they are listed: those are told by their bytes, and texts are compared only where bytes tell nothing.
+// they are listed: where the listed ones are `plain`, those are told by their bytes, and texts are compared only
+// where bytes tell nothing.
 fn find_value(
     s: &[u8],
     cells: &[u32],
@@ -107,15 +129,16 @@ fn find_value(
     first: u32,
     count: u32,
     last: usize,
+    plain: bool,
 ) -> usize
+    requires { ⌜ (plain ≡ true → PlainValues (now places) (now texts) first count) ⌝ }
     ensures { λ x. ⌜ ltb x count ≡ isOneOf (table (now (s .entry)) (now (cells .entry)) width 0) r k (now (places .entry)) (now (texts .entry)) count first ⌝ }
 {
     let from = first as usize;
     let n = count as usize;
-    let at = start_of(cells, width, r, k);
-    let close = plain_end(s, at);
-    if 0 < close {
-        let i = spelled_of(part(s, at + 1, close), places, texts, first, count, last);
+    if plain {
+        let at = start_of(cells, width, r, k);
+        let i = quoted_of(s, at, places, texts, first, count, last);
         if i < n {
             return i;
         }
@@ -184,11 +207,24 @@ fn one_of_rule(
     ensures { λ x. ⌜ x ≡ fieldRule (table (now (s .entry)) (now (cells .entry)) width records) k (OneOf first count) (now (places .entry)) (now (texts .entry)) ⌝ }
 {
     let n = count as usize;
+    let plain = are_plain(places, texts, first, count);
     let mut last = 0;
     let mut r = 0;
     while r < records {
         if is_given(cells, width, r, k) {
-            last = find_value(s, cells, width, r, k, places, texts, first, count, last);
+            last = find_value(
+                s,
+                cells,
+                width,
+                r,
+                k,
+                places,
+                texts,
+                first,
+                count,
+                last,
+                plain,
+            );
             if n <= last {
                 return r + 1;
             }

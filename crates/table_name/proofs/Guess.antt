@@ -1,5 +1,5 @@
--- A field's name that is guessed: what decides whether a word stands between quotes, and that the field whose own name
--- stands there is the one that is read.
+-- A field's name that is guessed: what decides whether a word stands between quotes, that it is then the text there, and that
+-- the field whose own name stands there is the one that is read.
 -- Assumes nothing.
 use Prim.Native.Nat.{ℕ, zero, suc, _+_, _-_, _*_, _≤_, _<_}
 use mathlib.Core.Path.{_≡_, refl, sym, ap, _∙_}
@@ -13,8 +13,9 @@ use lib.Seq.{getD-drop}
 use lib.Dec.{ltb, leb, eqb, lit<}
 use Rattle.json_bytes.specs.Reads.{byteAt, leading}
 use Rattle.json_bytes.proofs.Laws.{either, inside, both-left, both-right}
+use Rattle.json_chars.specs.Chars.{charsAt}
 use Rattle.json_text.specs.Run.{isGraphic, runEnd, plainEnd}
-use Rattle.json_text.proofs.Plain.{plain-closed}
+use Rattle.json_text.proofs.Plain.{plain-closed, plain-chars}
 use Rattle.json_same.specs.Same.{sameList}
 use Rattle.json_same.proofs.Laws.{same-equal}
 use Rattle.parts.specs.Part.{partOf}
@@ -193,19 +194,34 @@ run-quoted (b ∷ bs) (x ∷ xs) g t q = go (isGraphic b) refl g (λ h. run-quot
     go true e h rest = rw (first, e, leading) (ap suc (rest (omega (arith, h))))
     go false e h rest = absurd (omega (arith, h))
 
+-- ---- a word of bytes that stand for themselves, between quotes
+module _ (word s : List ℕ) (at : ℕ) (graphic : graphicWord word ≡ true) (h : 0 < quotedEnd word s at) where
+  there : take (at + 1 + length word - (at + 1)) (drop (at + 1) s) ≡ word
+  there =
+      let q = quoted word s at h in
+      let in-file : at + 1 + length word < length s = inside s (at + 1 + length word) 34 (q .close) (lit< tt) in
+      sym (part-is s (at + 1) (at + 1 + length word) (omega arith) (omega (arith, in-file))) ∙ q .same
+
+  quoted-plain : plainEnd s at ≡ at + 1 + length word
+  unfolding runEnd
+  quoted-plain =
+      let q = quoted word s at h in
+      let size : at + 1 + length word - (at + 1) ≡ length word = omega arith in
+      let run : leading isGraphic (drop (at + 1) s) ≡ length word = run-quoted word (drop (at + 1) s) (graphic-whole word graphic) (rw size at there) (getD-drop (at + 1) s (length word) 0 ∙ q .close) in
+      plain-closed s at (at + 1 + length word) (q .opens) (ap (λ n. at + 1 + n) (sym run)) (omega (arith, graphic-some word graphic)) (q .close)
+
+  -- it is the text there
+  pub quoted-chars : charsAt s at ≡ word
+  quoted-chars = plain-chars s at (at + 1 + length word) (sym quoted-plain) (omega arith) ∙ there
+
 module _ (rows names s : List ℕ) (count at k : ℕ) where
   pub guess-right : k < count → ownName rows names count k ≡ true → 0 < guessEnd rows names s at k → nameAt (fieldsFrom rows names count 0) s at ≡ Known k (guessEnd rows names s at k)
-  unfolding ownName guessEnd runEnd
+  unfolding ownName guessEnd
   guess-right l own h =
       let word = fieldNameAt rows names k in
       let graphic : graphicWord word ≡ true = both-left (graphicWord word) (eqb (indexOf word (fieldsFrom rows names count 0)) k) own in
       let index : indexOf word (fieldsFrom rows names count 0) ≡ k = eqb-true (indexOf word (fieldsFrom rows names count 0)) k (both-right (graphicWord word) (eqb (indexOf word (fieldsFrom rows names count 0)) k) own) in
       let q = quoted word s at h in
       let j = at + 1 + length word in
-      let in-file : j < length s = inside s j 34 (q .close) (lit< tt) in
-      let size : j - (at + 1) ≡ length word = omega arith in
-      let there : take (length word) (drop (at + 1) s) ≡ word = rw size at (sym (part-is s (at + 1) j (omega arith) (omega (arith, in-file))) ∙ q .same) in
-      let run : leading isGraphic (drop (at + 1) s) ≡ length word = run-quoted word (drop (at + 1) s) (graphic-whole word graphic) there (getD-drop (at + 1) s (length word) 0 ∙ q .close) in
-      let plain : plainEnd s at ≡ j = plain-closed s at j (q .opens) (ap (λ n. at + 1 + n) (sym run)) (omega (arith, graphic-some word graphic)) (q .close) in
       let known : Known k (j + 1) ≡ cond (ltb k count) (Known k (j + 1)) (Unknown 13 at) = rw (lt-ltb k count l) in
-      sym (name-plain s at rows names count k (j + 1) (Known k (j + 1)) known j (sym plain) (omega arith) refl word (sym (q .same)) (sym index)) ∙ ap (Known k) (omega (arith, q .end))
+      sym (name-plain s at rows names count k (j + 1) (Known k (j + 1)) known j (sym (quoted-plain word s at graphic h)) (omega arith) refl word (sym (q .same)) (sym index)) ∙ ap (Known k) (omega (arith, q .end))

@@ -221,7 +221,7 @@ pub fn name_at(s: &[u8], at: usize, rows: &[u32], names: &[u8], count: usize) ->
 
 // Whether a word is one that stands in a file by its bytes alone: not empty, and no byte of it is an escape's, a
 // quote or part of a longer character.
-fn is_graphic_word(word: &[u8]) -> bool
+pub fn is_graphic_word(word: &[u8]) -> bool
     ensures { λ r. ⌜ r ≡ graphicWord (now (word .entry)) ⌝ }
 {
     if word.len() == 0 {
@@ -259,7 +259,7 @@ pub fn names_apart(rows: &[u32], names: &[u8], count: usize) -> bool
 
 // The place behind a word that stands between two quotes, the first of them at `at`; 0 where it does not stand
 // there. The quotes are cheaper than the bytes and are tested first.
-fn quoted_end(s: &[u8], at: usize, word: &[u8]) -> usize
+pub fn quoted_end(s: &[u8], at: usize, word: &[u8]) -> usize
     ensures { λ r. ⌜ r ≡ quotedEnd (now (word .entry)) (now (s .entry)) at ⌝ }
 {
     if s.len() <= at {

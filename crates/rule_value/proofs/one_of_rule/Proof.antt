@@ -14,11 +14,14 @@ use Rattle.rule_value.proofs.one_of_rule.Statement.{statement}
 use Rattle.rule_value.proofs.one_of_rule.Tie as tie
 
 abbrev Inv-loop : tie.InvT-loop
-Inv-loop s cells width records k first count places texts n last₀ r₀ last r =
+Inv-loop s cells width records k first count places texts n plain last₀ r₀ last r =
     fieldRule (table s cells width records) k (OneOf first count) places texts ≡ firstFrom (breaksField (table s cells width 0) k (OneOf first count) places texts) (records - r) r
 
 abbrev μ-loop : tie.MeasureT-loop
-μ-loop s cells width records k first count places texts n last₀ r₀ last r = records - r
+μ-loop s cells width records k first count places texts n plain last₀ r₀ last r = records - r
+
+are-plain-requires : tie.Need-are-plain-requires Inv-loop μ-loop
+are-plain-requires c κs = search needs
 
 loop-holds : tie.Need-loop-holds Inv-loop μ-loop
 unfolding fieldRule firstThat
@@ -28,7 +31,7 @@ is-given-requires : tie.Need-is-given-requires Inv-loop μ-loop
 is-given-requires c κs = search needs
 
 find-value-requires : tie.Need-find-value-requires Inv-loop μ-loop
-find-value-requires c κs = search needs
+find-value-requires c κs = c .before .before .before .before .are-plain .ensures
 
 add-result : tie.Need-add-result Inv-loop μ-loop
 add-result c = omega arith
@@ -56,6 +59,7 @@ one-of-rule-spec =
     (tie.spec
     Inv-loop
     μ-loop
+    are-plain-requires
     loop-holds
     is-given-requires
     find-value-requires
