@@ -10,7 +10,7 @@ use native.Mathlib.Omega.{arith}
 use borrow.Author.Tests.{eqb-true, eqb-false}
 use lib.Arith.{digits-mod, digits-div}
 use lib.Bits.{bitAnd, bitOr, bitXor, and-block, or-block, xor-block, and-lt, or-lt, xor-lt, and-le-r, shifted-half, shifted-even}
-use lib.Count.{trailingZeros, trailing-le}
+use lib.Count.{trailingZeros, under, trailing-le}
 use lib.ListN.{length}
 use lib.Dec.{eqb, lit<}
 use Rattle.json_bytes.specs.Reads.{byteAt, within}
@@ -93,11 +93,11 @@ noSpace : ℕ → ℕ
 noSpace b = bitAnd (bitOr b (bitXor (low b) 0x20 + 0x7F)) 0x80
 
 -- a test that is computed of every number below a bound holds of each
-allBelow : (ℕ → Bool) → ℕ → Bool
+unfoldable pub allBelow : (ℕ → Bool) → ℕ → Bool
 allBelow f zero = true
 allBelow f (suc n) = f n && allBelow f n
 
-below : (f : ℕ → Bool) (n : ℕ) → allBelow f n ≡ true → (b : ℕ) → b < n → f b ≡ true
+pub below : (f : ℕ → Bool) (n : ℕ) → allBelow f n ≡ true → (b : ℕ) → b < n → f b ≡ true
 unfolding allBelow
 below f zero e b l = absurd (omega arith)
 below f (suc n) e b l = go (eqb b n) refl (below f n (both-right (f n) (allBelow f n) e) b)
@@ -187,6 +187,24 @@ at-flag n x =
     let bit : x * 256 + 128 ≡ (x * 2 + 1) * 128 = omega arith in
     rw (width, bit, trailing-past (suc (n * 8)) (x * 2 + 1) 7, trailingZeros, digits-mod x {m = 2} {r = 1} (lit< tt))
 
+-- of a number that is not 0 there is one
+trailing-less : (k x : ℕ) → x < 2 ^ k → (x ≡ 0 → ⊥) → trailingZeros k x < k
+unfolding trailingZeros
+trailing-less zero x l h = absurd (h (omega arith))
+trailing-less (suc k) x l h = go (x % 2) refl (trailing-less k (x / 2) (div-lt-iff-lt-mul (lit< tt) .1 (rw (pow-suc 2 k) at l)))
+  where
+    go : (d : ℕ) → x % 2 ≡ d → ((x / 2 ≡ 0 → ⊥) → trailingZeros k (x / 2) < k) → under d (trailingZeros k (x / 2)) < suc k
+    go zero e rest = omega (arith, rest (λ z. h (omega (arith, z, e))))
+    go (suc d) e rest = omega arith
+
+first-some : (x : ℕ) → x < 2 ^ 64 → (x ≡ 0 → ⊥) → firstByte x < 8
+unfolding firstByte
+first-some x l h = omega (arith, trailing-less 64 x l h)
+
+first-none : firstByte 0 ≡ 8
+unfolding firstByte trailingZeros
+first-none = refl
+
 -- ---- a run over some bytes of a list, by their flags
 module _ (s : List ℕ) (fs : Bytes s) where
   abbrev flags : ℕ → ℕ → ℕ
@@ -205,42 +223,47 @@ module _ (s : List ℕ) (fs : Bytes s) where
     unfolding oddFlag
     flags-set q = rw (flags-next n i, q)
 
+  -- where the first flag of n bytes stands
+  abbrev first : ℕ → ℕ → ℕ
+  first n i = trailingZeros (n * 8) (flags n i) / 8
+
   -- no flag among n bytes: the run goes on behind them
-  run-passes : (n i : ℕ) → i + n ≤ length s → flags n i ≡ 0 → runEnd s i ≡ runEnd s (i + n)
+  run-passes : (n i : ℕ) → i + n ≤ length s → first n i ≡ n → runEnd s i ≡ runEnd s (i + n)
   unfolding runEnd
   run-passes zero i l e = rw (add-zero i)
   run-passes (suc n) i l e = go (isGraphic (byteAt s i)) refl (run-passes n (i + 1) (omega arith))
     where
-      go : (t : Bool) → isGraphic (byteAt s i) ≡ t → (flags n (i + 1) ≡ 0 → runEnd s (i + 1) ≡ runEnd s (i + 1 + n)) → runEnd s i ≡ runEnd s (i + suc n)
+      go : (t : Bool) → isGraphic (byteAt s i) ≡ t → (first n (i + 1) ≡ n → runEnd s (i + 1) ≡ runEnd s (i + 1 + n)) → runEnd s i ≡ runEnd s (i + suc n)
       go true q rest =
           let next : i + 1 + n ≡ i + suc n = omega arith in
-          run-more isGraphic s i (omega arith) q ∙ rw next at (rest (omega (arith, flags-clear n i q, e)))
-      go false q rest = absurd (omega (arith, flags-set n i q, e))
+          let later : 1 + first n (i + 1) ≡ suc n = sym (past-clear n (flags n (i + 1))) ∙ rw (flags-clear n i q) at e in
+          run-more isGraphic s i (omega arith) q ∙ rw next at (rest (omega (arith, later)))
+      go false q rest = absurd (omega (arith, at-flag n (flags n (i + 1)), rw (flags-set n i q) at e))
 
   -- a flag among them: the run ends at the first
-  run-meets : (n i : ℕ) → i + n ≤ length s → (flags n i ≡ 0 → ⊥) → i + trailingZeros (n * 8) (flags n i) / 8 ≡ runEnd s i
-  unfolding eachByte runEnd
-  run-meets zero i l h = absurd (h refl)
+  run-meets : (n i : ℕ) → i + n ≤ length s → first n i < n → i + first n i ≡ runEnd s i
+  unfolding runEnd
+  run-meets zero i l h = absurd (omega arith)
   run-meets (suc n) i l h = go (isGraphic (byteAt s i)) refl (run-meets n (i + 1) (omega arith))
     where
-      go : (t : Bool) → isGraphic (byteAt s i) ≡ t → ((flags n (i + 1) ≡ 0 → ⊥) → i + 1 + trailingZeros (n * 8) (flags n (i + 1)) / 8 ≡ runEnd s (i + 1)) → i + trailingZeros (suc n * 8) (flags (suc n) i) / 8 ≡ runEnd s i
+      go : (t : Bool) → isGraphic (byteAt s i) ≡ t → (first n (i + 1) < n → i + 1 + first n (i + 1) ≡ runEnd s (i + 1)) → i + first (suc n) i ≡ runEnd s i
       go true q rest =
-          rw (flags-clear n i q, past-clear n (flags n (i + 1)), ← add-assoc i 1 (trailingZeros (n * 8) (flags n (i + 1)) / 8))
-          (rest (λ e. h (flags-clear n i q ∙ omega (arith, e))) ∙ sym (run-more isGraphic s i (omega arith) q))
+          let later : first (suc n) i ≡ 1 + first n (i + 1) = rw (flags-clear n i q) (past-clear n (flags n (i + 1))) in
+          rw (later, ← add-assoc i 1 (first n (i + 1)))
+          (rest (omega (arith, later, h)) ∙ sym (run-more isGraphic s i (omega arith) q))
       go false q rest = rw (flags-set n i q, at-flag n (flags n (i + 1)), add-zero i) (sym (run-stops isGraphic s i (omega arith) q))
 
-  -- ---- as the code has them
-  module _ (j odd : ℕ) (has : j + 8 ≤ length s) (are : odd ≡ oddBytes (eightAt s j)) where
-    told : odd ≡ flags 8 j
-    unfolding oddBytes eightAt
-    told = are
+  -- ---- as the code has them: of flags of which the first is right
+  module _ (j odd : ℕ) (has : j + 8 ≤ length s) (right : firstByte odd ≡ firstByte (oddBytes (eightAt s j))) where
+    told : firstByte odd ≡ first 8 j
+    unfolding oddBytes eightAt firstByte
+    told = right
 
     pub eight-pass : odd ≡ 0 → runEnd s j ≡ runEnd s (j + 8)
-    eight-pass e = run-passes 8 j has (sym told ∙ e)
+    eight-pass e = run-passes 8 j has (sym told ∙ ap firstByte e ∙ first-none)
 
-    pub eight-meet : (odd ≡ 0 → ⊥) → (r : ℕ) → r ≡ firstByte odd → j + r ≡ runEnd s j
-    unfolding firstByte
-    eight-meet h r is = rw (is, told) (run-meets 8 j has (λ e. h (told ∙ e)))
+    pub eight-meet : odd < 2 ^ 64 → (odd ≡ 0 → ⊥) → (r : ℕ) → r ≡ firstByte odd → j + r ≡ runEnd s j
+    eight-meet l h r is = rw (is, told) (run-meets 8 j has (omega (arith, told, first-some odd l h)))
 
 pub first-bound : (x : ℕ) → firstByte x ≤ 8
 unfolding firstByte

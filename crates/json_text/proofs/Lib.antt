@@ -1,5 +1,6 @@
 pub mod Opens
 pub mod Flags
+pub mod Lowest
 pub mod Stops
 pub mod Laws
 pub mod Words

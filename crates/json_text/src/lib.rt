@@ -245,6 +245,18 @@ pub fn first_byte(x: u64) -> usize
     (u64::trailing_zeros(x) as usize) / 8
 }
 
+// As odd_bytes, but only the lowest flag is right, which is cheaper: a sum that carries and a difference that borrows do
+// so out of a byte that has a flag, and only flags above it may be wrong.
+fn lowest_odd(x: u64) -> u64
+    ensures { λ r. ⌜ firstByte r ≡ firstByte (oddBytes x) ⌝ }
+{
+    let low = std::num::wrapping_sub_u64(x, 0x2121212121212121);
+    let high = std::num::wrapping_add_u64(x, 0x0101010101010101);
+    let quote = std::num::wrapping_sub_u64(x ^ 0x2222222222222222, 0x0101010101010101);
+    let slash = std::num::wrapping_sub_u64(x ^ 0x5C5C5C5C5C5C5C5C, 0x0101010101010101);
+    ((((x | low) | high) | quote) | slash) & 0x8080808080808080
+}
+
 // The first place from i on that does not hold such a byte: eight bytes at a time while there are eight, as most
 // bytes of a file stand in runs.
 pub fn run_end(s: &[u8], i: usize) -> usize
@@ -255,7 +267,7 @@ pub fn run_end(s: &[u8], i: usize) -> usize
     }
     let mut j = i;
     while j + 8 <= s.len() {
-        let odd = odd_bytes(eight_at(s, j));
+        let odd = lowest_odd(eight_at(s, j));
         if odd != 0 {
             return j + first_byte(odd);
         }

@@ -6,7 +6,7 @@ use lib.ListN.{length}
 use borrow.Author.Needs.{needs}
 use Rattle.json_bytes.proofs.Laws.{run-ends}
 use Rattle.json_text.specs.Run.{isGraphic, runEnd}
-use Rattle.json_text.specs.Eight.{oddBytes}
+use Rattle.json_text.specs.Eight.{oddBytes, firstByte}
 use Rattle.json_text.proofs.Flags.{eight-pass, eight-meet, first-bound}
 use Rattle.json_text.proofs.run_end.Statement.{statement}
 use Rattle.json_text.proofs.run_end.Tie as tie
@@ -30,18 +30,18 @@ add-loop c = omega arith
 eight-at-requires : tie.Need-eight-at-requires Inv-loop μ-loop
 eight-at-requires c κs = omega arith
 
-odd-bytes-requires : tie.Need-odd-bytes-requires Inv-loop μ-loop
-odd-bytes-requires c κs = search needs
+lowest-odd-requires : tie.Need-lowest-odd-requires Inv-loop μ-loop
+lowest-odd-requires c κs = search needs
 
 first-byte-requires : tie.Need-first-byte-requires Inv-loop μ-loop
 first-byte-requires c κs = search needs
 
 add-result : tie.Need-add-result Inv-loop μ-loop
-add-result c = omega (arith, first-bound (c .before .before .odd-bytes .result))
+add-result c = omega (arith, first-bound (c .before .before .lowest-odd .result))
 
 returns-2 : tie.Need-returns-2 Inv-loop μ-loop
 returns-2 c =
-    eight-meet _ (c .before .before .before .before .before .before .before .shared-slice-known .given) _ _ (omega arith) (c .before .before .odd-bytes .ensures ∙ ap oddBytes (c .before .before .before .eight-at .ensures)) (c .before .if2 .taken) _ (c .first-byte .ensures)
+    eight-meet _ (c .before .before .before .before .before .before .before .shared-slice-known .given) _ _ (omega arith) (c .before .before .lowest-odd .ensures ∙ ap (λ x. firstByte (oddBytes x)) (c .before .before .before .eight-at .ensures)) (omega arith) (c .before .if2 .taken) _ (c .first-byte .ensures)
     ∙ sym (c .before .before .before .before .before .loop .inv .0)
 
 add-j : tie.Need-add-j Inv-loop μ-loop
@@ -52,7 +52,7 @@ loop-less c = omega arith
 
 loop-again : tie.Need-loop-again Inv-loop μ-loop
 loop-again c =
-    (c .before .before .before .before .loop .inv .0 ∙ eight-pass _ (c .before .before .before .before .before .before .shared-slice-known .given) _ _ (omega arith) (c .before .odd-bytes .ensures ∙ ap oddBytes (c .before .before .eight-at .ensures)) (c .if2 .left), omega arith)
+    (c .before .before .before .before .loop .inv .0 ∙ eight-pass _ (c .before .before .before .before .before .before .shared-slice-known .given) _ _ (omega arith) (c .before .lowest-odd .ensures ∙ ap (λ x. firstByte (oddBytes x)) (c .before .before .eight-at .ensures)) (c .if2 .left), omega arith)
 
 bytes-end-requires : tie.Need-bytes-end-requires Inv-loop μ-loop
 bytes-end-requires c κs = search needs
@@ -70,7 +70,7 @@ run-end-spec =
     loop-holds
     add-loop
     eight-at-requires
-    odd-bytes-requires
+    lowest-odd-requires
     first-byte-requires
     add-result
     returns-2
