@@ -21,6 +21,7 @@ use Rattle.json_chars.specs.declared.Step.{Step}
 use Rattle.json_chars.specs.declared.Step.the-variants.{Char, Close, Bad}
 use Rattle.json_chars.proofs.Step.{the-type}
 use Rattle.json_chars.proofs.Bounds.{step-good, Good}
+use Rattle.json_chars.proofs.Plain.{closing-step}
 use Rattle.json_chars.proofs.Walk.{Left, Taken, take-char, take-close, take-bad, opened, unopened}
 use Rattle.json_same.specs.declared.Case.{Case}
 use Rattle.json_same.specs.declared.Pair.the-variants.{Same, Apart}
@@ -142,6 +143,11 @@ both-start case a i x b j y p q =
 module _ (case : Case) (a : List ℕ) (x : ℕ) (b : List ℕ) (y : ℕ) (whole : Bool) (w : Both case a x b y whole) where
   pub both-end : (e : Step) → e ≡ stepAt a x → isEnd e ≡ true → (f : Step) → f ≡ stepAt b y → isEnd f ≡ whole
   both-end e p t f q = nothing-left b y (w .ys) (w .left) case f q ∙ sym (against-end case a x (w .ys) whole (w .against) e p t)
+
+  -- the first stands at its closing quote
+  pub both-close : byteAt a x ≡ 34 → (f : Step) → f ≡ stepAt b y → isEnd f ≡ whole
+  unfolding isEnd
+  both-close e = both-end Close (sym (closing-step a x e)) refl
 
   module _ (code next : ℕ) (e : stepAt a x ≡ Char code next) where
     pub both-longer : (f : Step) → f ≡ stepAt b y → isEnd f ≡ true → whole ≡ false
