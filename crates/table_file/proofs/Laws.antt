@@ -2,9 +2,9 @@
 -- Assumes nothing.
 use Prim.Native.Nat.{ℕ, zero, suc, _+_, _*_, _≤_, _<_}
 use mathlib.Core.Path.{_≡_, refl, sym, ap, _∙_}
-use mathlib.Core.Bool.{Bool, true, false, _&&_}
+use mathlib.Core.Bool.{Bool, true, false, true≢false, cond, _&&_}
 use mathlib.Core.List.{List}
-use native.Mathlib.Nat.{mul-le-mul}
+use native.Mathlib.Nat.{mul-le-mul, zero-mul}
 use native.Mathlib.Omega.{arith}
 use borrow.Author.Tests.{eq-eqb, ne-eqb, lt-ltb, le-ltb, lt-leb}
 use lib.ListN.{length}
@@ -42,16 +42,6 @@ use Rattle.table_file.specs.Table.{
   readTable,
 }
 use Rattle.table_file.specs.File.{omitted, fixedRead, readAs, fileOf, formFrom, expectedFrom}
-
--- ---- a singleton
-module _ (fields : List Field) (s cells : List ℕ) (at b : ℕ) (isByte : b ≡ byteAt s at) (r : Reading) (x : FileRead) (isRead : x ≡ singleRead s r) where
-  pub single-object : b ≡ 123 → (then : List ℕ) → r ≡ recordAt fields s at cells 0 .outcome → then ≡ recordAt fields s at cells 0 .cells → tableRead then x ≡ singleAt fields s cells at
-  unfolding singleAt singleOf
-  single-object e then isRecord isThen = rw (← isByte, eq-eqb b 123 e, ← isRecord, ← isThen, isRead)
-
-  pub single-other : (b ≡ 123 → ⊥) → r ≡ notObjectAt s at → tableRead cells x ≡ singleAt fields s cells at
-  unfolding singleAt singleOf
-  single-other e isOther = rw (← isByte, ne-eqb b 123 e, ← isOther, isRead)
 
 -- ---- an element
 neither-is : (a : Bool) → (a && false) ≡ false
@@ -93,6 +83,15 @@ module _ (rows names : List ℕ) (count : ℕ) (s : List ℕ) (at : ℕ) (cells 
     element-object l then x isRecord isThen =
         let z : cellsFilled then x ≡ recordAt fields s at cells (r * (2 * count)) = rw (isRecord, isThen) in
         z ∙ element-record l
+
+-- ---- a singleton is read as the first element is
+single-element : (fields : List Field) (s : List ℕ) (at : ℕ) (cells : List ℕ) → singleOf s (elementAt fields s at cells 0) ≡ singleAt fields s cells at
+unfolding singleAt elementAt
+single-element fields s at cells = go (eqb (byteAt s at) 123)
+  where
+    go : (t : Bool) → singleOf s (cond t (recordAt fields s at cells (0 * (2 * length fields))) (cellsFilled cells (notObjectAt s at))) ≡ cond t (singleOf s (recordAt fields s at cells 0)) (singleOf s (cellsFilled cells (notObjectAt s at)))
+    go true = rw (zero-mul (2 * length fields))
+    go false = refl
 
 -- an element lies within the file
 pub element-in : (fields : List Field) (s : List ℕ) (at : ℕ) (cells : List ℕ) (r : ℕ) → at ≤ length s → Within s at (elementAt fields s at cells r .outcome)
@@ -182,6 +181,42 @@ module _ (fields : List Field) (s : List ℕ) (whole : TableRead) (cells : List 
 
       pub turn-neither : (place : ℕ) → x ≡ Neither place → tableRead then (fault 11 place 0) ≡ whole
       turn-neither = neither-by end isWhole x isNext (left .fuel) (left .enough) (left .inside) (left .reads)
+
+-- ---- the one loop of both: an array's elements, or a singleton, whose loop never turns
+module _ (fields : List Field) (s : List ℕ) (single : Bool) (from : ℕ) (before : List ℕ) where
+  abbrev wholeOf : TableRead
+  wholeOf = cond single (singleAt fields s before from) (elementsFrom (length s) fields s from before 0)
+
+  pub record Ahead (cells : List ℕ) (at r : ℕ) : Type 0 where
+    pub few : r ≤ length s
+    pub array : single ≡ false → Left fields s (elementsFrom (length s) fields s from before 0) cells at r
+    pub alone : single ≡ true → (r ≡ 0) × (elementAt fields s at cells r ≡ elementAt fields s from before 0)
+
+  pub ahead-all : (single ≡ false → (0 < from) × (from ≤ length s)) → Ahead before from 0
+  ahead-all h = record { few = omega arith; array = λ e. left-all fields s before from (h e .0) (h e .1); alone = λ e. (refl, refl) }
+
+  pub ahead-more : (cells : List ℕ) (at r : ℕ) → single ≡ false → Left fields s (elementsFrom (length s) fields s from before 0) cells at r → Ahead cells at r
+  ahead-more cells at r e left = record { few = omega (arith, left .inside, left .behind); array = λ _. left; alone = λ f. absurd (true≢false (sym f ∙ e)) }
+
+  pub array-told : (f : TableRead) → single ≡ false → f ≡ elementsFrom (length s) fields s from before 0 → f ≡ wholeOf
+  array-told f e is = rw e is
+
+  module _ (cells : List ℕ) (at r : ℕ) (ahead : Ahead cells at r) (then : List ℕ) (o : Reading) (isElement : cellsFilled then o ≡ elementAt fields s at cells r) where
+    alone-told : single ≡ true → tableRead then (singleRead s o) ≡ wholeOf
+    unfolding singleOf
+    alone-told e = rw e (ap (singleOf s) (isElement ∙ ahead .alone e .1) ∙ single-element fields s from before)
+
+    pub alone-ends : single ≡ true → (end : ℕ) → o ≡ Whole end → (t : FileRead) → t ≡ endOfFile s end 1 → tableRead then t ≡ wholeOf
+    unfolding singleRead
+    alone-ends e end isWhole t isEnd = rw isEnd (rw isWhole at (alone-told e))
+
+    pub either-fault : (kind place : ℕ) → o ≡ Fault kind place → (companion : ℕ) → companion ≡ companionOf kind (r + 1) → tableRead then (record { kind = kind; place = place; records = 0; companion = companion }) ≡ wholeOf
+    unfolding singleRead
+    either-fault kind place isFault companion told = go single refl
+      where
+        go : (t : Bool) → single ≡ t → tableRead then (record { kind = kind; place = place; records = 0; companion = companion }) ≡ wholeOf
+        go true e = rw (told, ahead .alone e .0) (rw isFault at (alone-told e))
+        go false e = array-told _ e (turn-fault fields s (elementsFrom (length s) fields s from before 0) cells at r then o isElement (ahead .array e) kind place isFault companion told)
 
 -- ---- an array
 module _ (s : List ℕ) (at : ℕ) (x : Next) (isFirst : x ≡ firstIn s at 93) where

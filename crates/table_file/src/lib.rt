@@ -1,7 +1,7 @@
 // A file of a set: its own mark, the number of its records, and where each value of each record
 // stands, found in one pass.
 ghost use mathlib.Core.Path.{_≡_};
-ghost use mathlib.Core.Bool.{true};
+ghost use mathlib.Core.Bool.{true, false, cond};
 ghost use Prim.Native.Nat.{_≤_, _<_};
 ghost use lib.ListN.{length};
 ghost use Rattle.parts.specs.Files.{newFile};
@@ -91,29 +91,6 @@ fn single_of(s: &[u8], reading: Reading) -> FileRead
     }
 }
 
-// A singleton. It is one record, for which it doesn't pay to find out whether the names are told apart
-// by their bytes: it has no hints.
-fn read_single(
-    s: &[u8],
-    at: usize,
-    rows: &[u32],
-    names: &[u8],
-    count: usize,
-    cells: &mut [u32],
-) -> FileRead
-    ensures { λ r. ⌜ tableRead (now (cells .exit)) r ≡ singleAt (fieldsFrom (now (rows .entry)) (now (names .entry)) count 0) (now (s .entry)) (now (cells .entry)) at ⌝ }
-{
-    if byte_at(s, at) == b'{' {
-        let mut required = [0u8; 64];
-        let n = fill_required(rows, count, &mut required);
-        return single_of(
-            s,
-            read_record(s, at, rows, names, count, b"", &required[..n], cells, 0),
-        );
-    }
-    single_of(s, not_object_at(s, at))
-}
-
 // The element at `at` of a table of which r records have been read.
 fn element_at(
     s: &[u8],
@@ -160,7 +137,9 @@ fn element_at(
     )
 }
 
-// The elements from `from` on, up to the closing bracket and the end of the file.
+// The elements from `from` on, up to the closing bracket and the end of the file; of a singleton the one object at
+// `from`, up to the end of the file. Both go through one loop, so that reading a record is called from one place: there
+// it is put in place by the compiler, and no record pays for a call.
 fn read_elements(
     s: &[u8],
     from: usize,
@@ -170,33 +149,39 @@ fn read_elements(
     hints: &[u8],
     required: &[u8],
     cells: &mut [u32],
+    single: bool,
 ) -> FileRead
-    requires { ⌜ (0 < from) × (from ≤ length (now s)) ⌝ }
+    requires { ⌜ (single ≡ false → (0 < from) × (from ≤ length (now s))) ⌝ }
     requires { ⌜ (0 < length (now hints) → namesApart (now rows) (now names) count ≡ true) ⌝ }
     requires { ⌜ (count ≤ 64 → now required ≡ requiredFrom (now rows) count 0) ⌝ }
-    ensures { λ r. ⌜ tableRead (now (cells .exit)) r ≡ elementsFrom (length (now (s .entry))) (fieldsFrom (now (rows .entry)) (now (names .entry)) count 0) (now (s .entry)) from (now (cells .entry)) 0 ⌝ }
+    ensures { λ r. ⌜ tableRead (now (cells .exit)) r ≡ cond single (singleAt (fieldsFrom (now (rows .entry)) (now (names .entry)) count 0) (now (s .entry)) (now (cells .entry)) from) (elementsFrom (length (now (s .entry))) (fieldsFrom (now (rows .entry)) (now (names .entry)) count 0) (now (s .entry)) from (now (cells .entry)) 0) ⌝ }
 {
     let mut at = from;
     let mut r = 0;
     loop {
         match element_at(s, at, rows, names, count, hints, required, cells, r) {
-            Reading::Whole { end } => match next_after(s, end, b']') {
-                Next::More { at: next } => {
-                    at = next;
-                    r += 1;
+            Reading::Whole { end } => {
+                if single {
+                    return end_of_file(s, end, 1);
                 }
-                Next::Ends { at: last } => {
-                    return end_of_file(s, last + 1, r + 1);
+                match next_after(s, end, b']') {
+                    Next::More { at: next } => {
+                        at = next;
+                        r += 1;
+                    }
+                    Next::Ends { at: last } => {
+                        return end_of_file(s, last + 1, r + 1);
+                    }
+                    Next::Neither { at: place } => {
+                        return FileRead {
+                            kind: 11,
+                            place,
+                            records: 0,
+                            companion: 0,
+                        };
+                    }
                 }
-                Next::Neither { at: place } => {
-                    return FileRead {
-                        kind: 11,
-                        place,
-                        records: 0,
-                        companion: 0,
-                    };
-                }
-            },
+            }
             Reading::Fault { kind, place } => {
                 return FileRead {
                     kind,
@@ -226,11 +211,48 @@ fn read_hinted(
     let mut required = [0u8; 64];
     let n = fill_required(rows, count, &mut required);
     if !names_apart(rows, names, count) {
-        return read_elements(s, from, rows, names, count, b"", &required[..n], cells);
+        return read_elements(
+            s,
+            from,
+            rows,
+            names,
+            count,
+            b"",
+            &required[..n],
+            cells,
+            false,
+        );
     }
     let mut hints = [255u8; 256];
     fill_hints(rows, names, count, &mut hints);
-    read_elements(s, from, rows, names, count, &hints, &required[..n], cells)
+    read_elements(
+        s,
+        from,
+        rows,
+        names,
+        count,
+        &hints,
+        &required[..n],
+        cells,
+        false,
+    )
+}
+
+// A singleton. It is one record, for which it doesn't pay to find out whether the names are told apart
+// by their bytes: it has no hints.
+fn read_single(
+    s: &[u8],
+    at: usize,
+    rows: &[u32],
+    names: &[u8],
+    count: usize,
+    cells: &mut [u32],
+) -> FileRead
+    ensures { λ r. ⌜ tableRead (now (cells .exit)) r ≡ singleAt (fieldsFrom (now (rows .entry)) (now (names .entry)) count 0) (now (s .entry)) (now (cells .entry)) at ⌝ }
+{
+    let mut required = [0u8; 64];
+    let n = fill_required(rows, count, &mut required);
+    read_elements(s, at, rows, names, count, b"", &required[..n], cells, true)
 }
 
 // A table of records.

@@ -32,7 +32,7 @@ slice-aggregate-read-elements-2 c =
 read-elements-requires : tie.Need-read-elements-requires
 read-elements-requires c κs =
     let b = c .before .before .before .before .before .before in
-    (b .before .before .before .before .before .before .pre, ((λ e. absurd (not-suc-le-zero e)), required-all _ _ _ (b .fill-required .ensures .0)))
+    ((λ _. b .before .before .before .before .before .before .pre), ((λ e. absurd (not-suc-le-zero e)), required-all _ _ _ (b .fill-required .ensures .0)))
 
 same-length : tie.Need-same-length
 same-length c = search needs
@@ -61,7 +61,7 @@ read-elements-requires-2 : tie.Need-read-elements-requires-2
 read-elements-requires-2 c κs =
     let t = c .before .before .before .before .before .before in
     let b = t .before .before .before in
-    (b .before .before .before .before .before .before .pre, ((λ e. sym (t .before .names-apart .ensures) ∙ not-false _ (t .if1 .left)), required-all _ _ _ (b .fill-required .ensures .0)))
+    ((λ _. b .before .before .before .before .before .before .pre), ((λ e. sym (t .before .names-apart .ensures) ∙ not-false _ (t .if1 .left)), required-all _ _ _ (b .fill-required .ensures .0)))
 
 same-length-2 : tie.Need-same-length-2
 same-length-2 c = search needs
