@@ -257,8 +257,8 @@ fn lowest_odd(x: u64) -> u64
     ((((x | low) | high) | quote) | slash) & 0x8080808080808080
 }
 
-// The first place from i on that does not hold such a byte: eight bytes at a time while there are eight, as most
-// bytes of a file stand in runs.
+// The first place from i on that does not hold such a byte: eight bytes at a time while there are eight and one more,
+// as most bytes of a file stand in runs. Many IDs have eight characters, so a quote is asked for behind eight bytes.
 pub fn run_end(s: &[u8], i: usize) -> usize
     ensures { λ r. ⌜ r ≡ runEnd (now (s .entry)) i ⌝ }
 {
@@ -266,12 +266,15 @@ pub fn run_end(s: &[u8], i: usize) -> usize
         return i;
     }
     let mut j = i;
-    while j + 8 <= s.len() {
+    while j + 8 < s.len() {
         let odd = lowest_odd(eight_at(s, j));
         if odd != 0 {
             return j + first_byte(odd);
         }
         j += 8;
+        if s[j] == 34 {
+            return j;
+        }
     }
     bytes_end(s, j)
 }

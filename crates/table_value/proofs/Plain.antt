@@ -1,4 +1,5 @@
--- A date as it stands between two quotes, in a field of type Date: a whole string that breaks no rule, and held.
+-- A date as it stands between two quotes, in a field of type Date, and a plain string in a field of text: whole strings that break no
+-- rule, and held.
 -- Assumes nothing.
 use Prim.Native.Nat.{ℕ, _+_, _<_}
 use mathlib.Core.Path.{_≡_, refl}
@@ -13,17 +14,18 @@ use Rattle.json_bytes.specs.declared.Reading.the-variants.{Whole}
 use Rattle.json_bytes.proofs.Laws.{both-left, both-right}
 use Rattle.json_chars.specs.Chars.{charsAt}
 use Rattle.json_chars.proofs.Plain.{closing-step}
-use Rattle.json_text.specs.Run.{isGraphic, Run}
+use Rattle.json_text.specs.Run.{isGraphic, Run, plainEnd}
 use Rattle.json_text.specs.Text.{textRead}
 use Rattle.json_text.specs.declared.TextType.{TextType}
 use Rattle.json_text.proofs.Laws.{opened, along-run, take-close}
+use Rattle.json_text.proofs.Plain.{plain-inside, plain-read}
 use Rattle.json_date.specs.Date.{dateOf}
 use Rattle.json_date.specs.Plain.{isTold, isPlainDate}
 use Rattle.json_date.specs.declared.Date.{Date}
 use Rattle.json_date.specs.declared.Date.the-variants.{Day, NoDate}
 use Rattle.json_date.proofs.Plain.{Graphic, PlainDate, plain-date}
-use Rattle.table_rows.specs.Types.{date}
-use Rattle.table_value.specs.Value.{textType, dateHeld, stringIn, stringValue}
+use Rattle.table_rows.specs.Types.{date, string, text}
+use Rattle.table_value.specs.Value.{textType, textHeld, dateHeld, stringIn, stringValue}
 use Rattle.table_value.specs.declared.ValueRead.the-variants.{Held}
 
 -- digits and dashes are characters by themselves
@@ -65,3 +67,11 @@ module _ (s : List ℕ) (at ty : ℕ) (e : (eqb ty date && isPlainDate s at) ≡
 
   pub plain-date-held : stringValue s at ty (textRead (textType ty) s at) ≡ Held (at + 12)
   plain-date-held = rw (eqb-true ty date (both-left (eqb ty date) (isPlainDate s at) e)) (date-value s at there)
+
+-- ---- a plain string has a character
+module _ (s : List ℕ) (at j : ℕ) (is : j ≡ plainEnd s at) (h : 0 < j) where
+  pub plain-held : (ty : ℕ) → within string text ty ≡ true → stringValue s at ty (textRead (textType ty) s at) ≡ Held (j + 1)
+  unfolding stringValue stringIn textHeld
+  plain-held ty w =
+      let some : at + 1 < j = plain-inside s at j is h .0 in
+      rw (plain-read s at j is h (textType ty), w, ne-eqb (j + 1) (at + 2) (λ e. omega (arith, some, e)))

@@ -129,7 +129,7 @@ fn plain_close(s: &[u8], at: usize, ty: u32) -> usize
 }
 
 // Most dates are told by their twelve bytes, and most IDs hold only bytes that are characters by themselves and
-// break no rule: neither needs its characters read one by one.
+// break no rule: neither needs its characters read one by one. Such an ID has a byte, so it is held.
 fn string_value(s: &[u8], at: usize, ty: u32) -> ValueRead
     requires { ⌜ at < length (now s) ⌝ }
     ensures { λ r. ⌜ r ≡ stringValue (now (s .entry)) at ty (textRead (textType ty) (now (s .entry)) at) ⌝ }
@@ -139,7 +139,11 @@ fn string_value(s: &[u8], at: usize, ty: u32) -> ValueRead
     }
     let close = plain_close(s, at, ty);
     if 0 < close {
-        return string_in(s, at, ty, close + 1, Wrong { rule: 0, place: 0 });
+        let end = close + 1;
+        if is_within(STRING, TEXT, ty) {
+            return ValueRead::Held { end };
+        }
+        return string_in(s, at, ty, end, Wrong { rule: 0, place: 0 });
     }
     let read = read_text(s, at, text_type(ty));
     let reading = read.reading;

@@ -1,15 +1,23 @@
 -- `json_text::run_end` meets its contract: what is left of the run from here ends where the whole run ends.
-use Prim.Native.Nat.{_-_, _≤_}
+use Prim.Native.Nat.{ℕ, _+_, _-_, _≤_, _<_}
 use mathlib.Core.Path.{_≡_, refl, sym, ap, _∙_}
+use mathlib.Core.List.{List}
 use native.Mathlib.Omega.{arith}
 use lib.ListN.{length}
+use denote.Ref.{now}
 use borrow.Author.Needs.{needs}
-use Rattle.json_bytes.proofs.Laws.{run-ends}
+use Rattle.json_bytes.specs.Reads.{byteAt}
+use Rattle.json_bytes.proofs.Laws.{run-stops, run-ends}
 use Rattle.json_text.specs.Run.{isGraphic, runEnd}
 use Rattle.json_text.specs.Eight.{oddBytes, firstByte}
 use Rattle.json_text.proofs.Flags.{eight-pass, eight-meet, first-bound}
 use Rattle.json_text.proofs.run_end.Statement.{statement}
 use Rattle.json_text.proofs.run_end.Tie as tie
+
+-- a quote is no byte of a run
+quote-ends : (s : List ℕ) (j : ℕ) → j < length s → byteAt s j ≡ 34 → runEnd s j ≡ j
+unfolding runEnd isGraphic
+quote-ends s j l e = run-stops isGraphic s j l (rw e)
 
 abbrev Inv-loop : tie.InvT-loop
 Inv-loop s i j₀ j = (runEnd s i ≡ runEnd s j) × (j ≤ length s)
@@ -47,18 +55,28 @@ returns-2 c =
 add-j : tie.Need-add-j Inv-loop μ-loop
 add-j c = omega arith
 
+shared-slice-read-if3 : tie.Need-shared-slice-read-if3 Inv-loop μ-loop
+shared-slice-read-if3 c = omega arith
+
+-- behind eight bytes of the run
+passed : (c : tie.Else2 Inv-loop μ-loop) → runEnd (now (c .before .before .before .before .before .before .before .args .s)) (c .before .before .before .before .before .before .before .args .i) ≡ runEnd (now (c .before .before .before .before .before .before .before .args .s)) (c .before .before .before .before .loop .j + 8)
+passed c =
+    c .before .before .before .before .loop .inv .0 ∙ eight-pass _ (c .before .before .before .before .before .before .shared-slice-known .given) _ _ (omega arith) (c .before .lowest-odd .ensures ∙ ap (λ x. firstByte (oddBytes x)) (c .before .before .eight-at .ensures)) (c .if2 .left)
+
+returns-3 : tie.Need-returns-3 Inv-loop μ-loop
+returns-3 c = sym (passed (c .before .before) ∙ quote-ends _ _ (omega arith) (c .if3 .taken))
+
 loop-less : tie.Need-loop-less Inv-loop μ-loop
 loop-less c = omega arith
 
 loop-again : tie.Need-loop-again Inv-loop μ-loop
-loop-again c =
-    (c .before .before .before .before .loop .inv .0 ∙ eight-pass _ (c .before .before .before .before .before .before .shared-slice-known .given) _ _ (omega arith) (c .before .lowest-odd .ensures ∙ ap (λ x. firstByte (oddBytes x)) (c .before .before .eight-at .ensures)) (c .if2 .left), omega arith)
+loop-again c = (passed (c .before .before), omega arith)
 
 bytes-end-requires : tie.Need-bytes-end-requires Inv-loop μ-loop
 bytes-end-requires c κs = search needs
 
-returns-3 : tie.Need-returns-3 Inv-loop μ-loop
-returns-3 c = c .bytes-end .ensures ∙ sym (c .before .before .loop .inv .0)
+returns-4 : tie.Need-returns-4 Inv-loop μ-loop
+returns-4 c = c .bytes-end .ensures ∙ sym (c .before .before .loop .inv .0)
 
 pub run-end-spec : {M : Type 1} → statement M
 run-end-spec =
@@ -75,7 +93,9 @@ run-end-spec =
     add-result
     returns-2
     add-j
+    shared-slice-read-if3
+    returns-3
     loop-less
     loop-again
     bytes-end-requires
-    returns-3)
+    returns-4)
