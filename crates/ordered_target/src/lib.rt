@@ -2,8 +2,8 @@
 // other, so the record behind the target found last is tried first, then that one again, and then those
 // around it. Only where none of them is it, each target record is put into a list of slots, near a place that its
 // text tells, and from there on a value is looked for in the slots near its own place. Before that it is only seen
-// whether the record behind the last one has the same bytes: where targets come in no order, the other tries would
-// mostly be in vain.
+// whether the record behind the last one or that one has the same bytes: where targets come in no order, the other
+// tries would mostly be in vain.
 // Slots only guess: a record that stands there is compared, and one that does not may still be a target, as where
 // too many have one place. So what they don't answer, which mostly is a value that no target record has, takes the
 // dearest way: the target records are put in order, and the value is looked up there, as are all behind it.
@@ -99,8 +99,8 @@ fn is_copy(
     false
 }
 
-// Tries whether the record behind the one that was found last has the same bytes. Most do where targets are named
-// one after the other.
+// Tries whether the record behind the one that was found last has the same bytes, and then that one. Most do where
+// targets are named one after the other, and many where records come in groups.
 fn guess_copy(
     s: &[u8],
     at: usize,
@@ -114,17 +114,25 @@ fn guess_copy(
 ) -> Near
     ensures { λ x. ⌜ (x .found ≡ true → eqb (targetOf (charsAt (now (s .entry)) at) (table (now (u .entry)) (now («u_cells» .entry)) «u_width» «u_records») m) 0 ≡ false) ⌝ }
 {
-    if near < u_records {
-        let next = near + 1;
-        return Near {
-            found: is_copy(s, at, end, u, u_cells, u_width, u_records, m, next),
-            record: next,
-        };
-    }
-    Near {
+    let none = Near {
         found: false,
         record: near,
+    };
+    if u_records <= near {
+        return none;
     }
+    let mut d = 2;
+    while 0 < d {
+        d -= 1;
+        let q = near + d;
+        if is_copy(s, at, end, u, u_cells, u_width, u_records, m, q) {
+            return Near {
+                found: true,
+                record: q,
+            };
+        }
+    }
+    none
 }
 
 // The last two bytes of a text whose closing quote stands before `end`, as one number; 0 where there are none.
