@@ -163,6 +163,33 @@ fn add_places_past_the_end(cases: &mut Cases) {
     }
 }
 
+/// Two strings may be compared eight bytes at a time as long as both have so many
+/// left. One of each length beside itself and beside what differs from it at one
+/// place: a letter in other case, another one, an escape for it, a space, the
+/// closing quote, the file's end. Either of them goes on behind its quote, or ends
+/// with it.
+pub(super) fn add_alike(cases: &mut Cases) {
+    const LETTERS: &[u8] = b"Quay-wall_7.Mooring-9";
+    for length in 0..=LETTERS.len() {
+        let whole = quoted(&LETTERS[..length]);
+        cases.equality(&whole, &whole);
+        for at in 0..length {
+            let letter = LETTERS[at];
+            let (front, rest) = (&LETTERS[..at], &LETTERS[at + 1..length]);
+            let escape = format!("\\u00{letter:02x}");
+            for other in [&[letter ^ 0x20][..], b"~", escape.as_bytes(), b" ", b"\"", b""] {
+                let changed = quoted(&joined(&[front, other, rest]));
+                let longer = joined(&[&changed, b",\"Name\":1}"]);
+                let goes_on = joined(&[&whole, b",\"Name\":1}"]);
+                cases.equality(&whole, &longer);
+                cases.equality(&changed, &goes_on);
+                cases.equality(&longer, &goes_on);
+            }
+            cases.equality(&whole, &whole[..=at]);
+        }
+    }
+}
+
 /// 100,000 characters, equal, or different only at the last one.
 fn add_long_strings(cases: &mut Cases) {
     let many = vec![b'q'; 100_000];

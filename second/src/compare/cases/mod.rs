@@ -29,6 +29,8 @@ pub fn all_cases(seed: u64) -> Vec<Case> {
     strings::add_eights(&mut cases);
     strings::add_two_digit_escapes(&mut cases);
     dates::add_ten_bytes(&mut cases);
+    strings::add_words(&mut cases);
+    equality::add_alike(&mut cases);
     cases.list
 }
 

@@ -293,6 +293,38 @@ fn add_two_edges(cases: &mut Cases) {
     }
 }
 
+// ------------------------------------------------- words by eight bytes
+
+/// What may follow a space: the end of the string, an edge, an escape or a
+/// character of several bytes.
+const BEHIND_A_SPACE: [&str; 8] =
+    ["\"", " \"", "\u{1F}", "\u{7F}", "\\u0041", "\\/", "é", "\u{1F600}"];
+
+/// Words and the single spaces between them may be passed over at once, and other
+/// spaces not. A space at each place of a run, alone, with a second one at each
+/// place behind it, and before each of the bytes above; the file ends with the
+/// string, or it goes on.
+pub(super) fn add_words(cases: &mut Cases) {
+    for length in 1..=LONGEST_RUN {
+        let run = quoted(&letters(length));
+        for at in 1..=length {
+            let spaced = replaced(&run, at, b' ');
+            cases.text_by_each_kind(0, &spaced);
+            cases.text_in_turn(0, &joined(&[&spaced, b",\"Name\":1}"]));
+            for second in at + 1..=length {
+                let twice = replaced(&spaced, second, b' ');
+                let more: &[u8] = if (at + second) % 2 == 0 { b"" } else { b",\"Name\":1}" };
+                cases.text_in_turn(0, &joined(&[&twice, more]));
+            }
+            for behind in BEHIND_A_SPACE {
+                let (front, rest) = spaced.split_at(at + 1);
+                cases.text_in_turn(0, &joined(&[front, behind.as_bytes(), rest]));
+            }
+            cases.text_in_turn(0, &spaced[..=at]);
+        }
+    }
+}
+
 // ------------------------------------------------- escapes of two digits
 
 /// An escape for a plain character may be passed over at once where its digits
