@@ -178,8 +178,8 @@ fn is_apart(s: &[u8], cells: &[u32], width: usize, key: Key, from: usize, i: usi
 }
 
 // Whether the key's second field is an ID that never falls from one record to the next, and among the
-// records that share one no key is there twice: then none is at all. Links are often listed by their
-// successor and assignments by their task: where the keys do not ascend, this spares them the lists.
+// records that share one no key is there twice: then none is at all. Where links are listed by their
+// successor, or assignments by their task, and the keys do not ascend, this spares them the lists.
 pub fn is_grouped(s: &[u8], cells: &[u32], width: usize, records: usize, key: Key) -> bool
     ensures { λ r. ⌜ r ≡ grouped (table (now (s .entry)) (now (cells .entry)) width 0) key records ⌝ }
 {
