@@ -1,4 +1,6 @@
 // An amount in a record: dollars or hours in ten-thousandths, exact.
+#![tactic(auto)]
+
 ghost use Rattle.std.specs.Prelude.{◌≡◌, ◌+◌, ◌≤◌};
 ghost use Rattle.json_number.specs.Number.{whole_of};
 ghost use Rattle.json_number.specs.declared.Integer.TheVariants.{Is};

@@ -1,4 +1,6 @@
 // The gate of the baseline profile: document 01's files, judged by its rules and by four further ones.
+#![tactic(auto)]
+
 ghost use Rattle.std.specs.Prelude.{◌≡◌, length};
 ghost use Rattle.standing.specs.Standing.{standing, start_standing};
 ghost use Rattle.mark_numbers.specs.Marks.{marks_in};

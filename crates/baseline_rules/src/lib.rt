@@ -1,4 +1,6 @@
 // The rules of the baseline profile as rows: document 01's, and behind them those of marks 81 to 84.
+#![tactic(auto)]
+
 ghost use Rattle.std.specs.Prelude.{◌≡◌, ◌++◌, ◌+◌, length, get_or};
 ghost use Rattle.baseline_rules.specs.Rules.{further_rows, baseline_rows};
 

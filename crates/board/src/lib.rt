@@ -1,4 +1,6 @@
 // The board of document 01: 81 kinds, 81 places and 81 companions.
+#![tactic(auto)]
+
 ghost use Rattle.std.specs.Prelude.{◌≡◌, cond, ◌++◌, ◌≤◌, length, drop, leb};
 ghost use Rattle.report.specs.Report.{report_of};
 ghost use Rattle.board.specs.Board.{marks_on, fresh_board, faults_of, accepted_board};
@@ -6,7 +8,7 @@ ghost use Rattle.board.specs.Board.{marks_on, fresh_board, faults_of, accepted_b
 use mark_numbers::count_faults;
 use report::report;
 
-#[derive(Drop)]
+#[derive(Clone, Copy)]
 pub struct Board {
     pub kinds: [u32; 81],
     pub places: [usize; 81],

@@ -1,5 +1,7 @@
 // Both desks in one call (document 02, order 10), over what a caller lends: a workspace, and for each desk
 // lists for its marks.
+#![tactic(auto)]
+
 ghost use Rattle.std.specs.Prelude.{◌≡◌, true, cond, ◌||◌, length, eqb};
 ghost use Rattle.parts.specs.Files.{new_file};
 ghost use Rattle.mark_numbers.specs.Marks.{marks_in};
@@ -16,7 +18,7 @@ use desks_calls::{Seen, Whose};
 
 // How a call ends for both: their refusals, each or 0, and the length of the new bundle, 0 where none is
 // written.
-#[derive(Drop)]
+#[derive(Clone, Copy)]
 pub struct Refusals {
     pub a: u32,
     pub b: u32,

@@ -1,5 +1,7 @@
 // The bundle: its layout, its files as parts of it, and the bundle that a change makes of it. All
 // of it over the count n of the files, 20 for a set.
+#![tactic(auto)]
+
 ghost use Rattle.std.specs.Prelude.{◌≡◌, cond, ◌||◌, ◌++◌, ◌+◌, ◌*◌, ◌^◌, ◌≤◌, ◌<◌, length, take, drop, eqb};
 ghost use Rattle.bundle_bytes.specs.Words.{word_at, word_of};
 ghost use Rattle.bundle_bytes.specs.Pieces.{joined, written};
@@ -12,7 +14,7 @@ use bundle_bytes::{put_part, put_word, word_at};
 use parts::part;
 
 // What a file asked for by number is; a refusal has its number.
-#[derive(Drop)]
+#[derive(Clone, Copy)]
 pub enum FileState {
     Present,
     Omitted,
@@ -20,7 +22,7 @@ pub enum FileState {
 }
 
 // What became of a change: its refusal or 0, and the length of the new bundle.
-#[derive(Drop)]
+#[derive(Clone, Copy)]
 pub struct Made {
     pub refusal: u32,
     pub length: usize,

@@ -1,4 +1,6 @@
 // Little-endian 32-bit numbers in bytes, and bytes written over a part of others.
+#![tactic(auto)]
+
 ghost use Rattle.std.specs.Prelude.{◌≡◌};
 ghost use Rattle.bundle_bytes.specs.Words.{word_at, word_of};
 ghost use Rattle.bundle_bytes.specs.Pieces.{written};

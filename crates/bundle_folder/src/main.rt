@@ -1,4 +1,6 @@
 // Writes the bundle of the set of files in a folder, and prints its length.
+#![tactic(auto)]
+
 use folder::{argument, gather, write_opened};
 use gate_lists::Which;
 use libc::STDOUT_FILENO;

@@ -2,6 +2,8 @@
 // as numbers. All numbers are little-endian u32. No contract can say what comes from outside or goes
 // there, and nothing but a test reads the rest: so the functions here are proved to be safe and to end,
 // and what they write is what the tests compare.
+#![tactic(auto)]
+
 ghost use Rattle.std.specs.Prelude.{◌%◌, ◌≡◌};
 
 use board::Board;

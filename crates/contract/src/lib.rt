@@ -1,5 +1,7 @@
 // The contract side's gate: the marks of a set of Subcontractors, WBS, OBS and ControlAccounts, wherever
 // these stand, and what is told of one.
+#![tactic(auto)]
+
 ghost use Rattle.std.specs.Prelude.{◌≡◌, length};
 ghost use Rattle.standing.specs.Standing.{standing, start_standing};
 ghost use Rattle.mark_numbers.specs.Marks.{marks_in};

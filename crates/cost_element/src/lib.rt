@@ -1,5 +1,7 @@
 // The elements of cost of assignments, each that of the resource with its ID, through an order of the
 // resources by ID and then by element: one lookup tells whether some resource has both.
+#![tactic(auto)]
+
 ghost use Rattle.std.specs.Prelude.{◌≡◌, true, ℕ, ◌+◌, ◌<◌, ◌≤◌, length, leb};
 ghost use Rattle.json_chars.specs.Chars.{chars_at};
 ghost use Rattle.mark_numbers.specs.Marks.{list_of};

@@ -1,4 +1,6 @@
 // Where a long value is cut for printing.
+#![tactic(auto)]
+
 ghost use Rattle.std.specs.Prelude.{◌≡◌};
 ghost use Rattle.json_bytes.specs.Reads.{byte_at};
 ghost use Rattle.text_place.specs.Place.{is_character};

@@ -1,6 +1,8 @@
 // One desk judged on the joined set (document 02, order 10), over what a caller lends: a workspace, and
 // lists for the marks. The set's files are read where they stand: the desk's own in its bundle, the
 // calendars in theirs, and a changed file in the new bytes.
+#![tactic(auto)]
+
 ghost use Rattle.std.specs.Prelude.{◌≡◌, cond, List, ℕ, ◌+◌, ◌≤◌, ◌<◌, ◌/◌, length, ltb};
 ghost use Rattle.parts.specs.Files.{new_file};
 ghost use Rattle.standing.specs.Standing.{standing, standing_with};

@@ -1,5 +1,7 @@
 // Why a desk is refused (document 02, order 10): by its own bundle, by the calendars, or by a change that it
 // sees.
+#![tactic(auto)]
+
 ghost use Rattle.std.specs.Prelude.{◌≡◌, not, ◌&&◌, ◌||◌, ltb};
 ghost use Rattle.parts.specs.Files.{is_present, new_file};
 ghost use Rattle.bundle_layout.specs.Bundle.{file_at};

@@ -1,6 +1,8 @@
 // Document 02, order 10, with boards: two desks, each judged on its own files joined with one set of
 // calendars. Judge a desk in full, try a change, make it. Each call is the one over lists, and the ones that
 // own their memory are those that are lent it.
+#![tactic(auto)]
+
 ghost use Rattle.std.specs.Prelude.{◌≡◌, length};
 ghost use Rattle.parts.specs.Files.{new_file};
 ghost use Rattle.mark_numbers.specs.Marks.{fresh_marks};
@@ -17,14 +19,14 @@ use desk_lists::judge_joined_lists;
 use desks_calls::Whose;
 
 // How a call ends for a desk: a refusal or 0, and its board.
-#[derive(Drop)]
+#[derive(Clone, Copy)]
 pub struct Desk {
     pub refusal: u32,
     pub board: Board,
 }
 
 // For both, with the length of the new bundle, 0 where none is written.
-#[derive(Drop)]
+#[derive(Clone, Copy)]
 pub struct Desks {
     pub a: Desk,
     pub b: Desk,

@@ -1,6 +1,8 @@
 // The desks (document 02, order 10) for programs in other languages: numbers and lent lists in, a number
 // out. A desk's board is three lists of 81. A try and a change answer 0, and put down what each desk is
 // answered, or answer a fault of their own, 100 or 101, and write nothing.
+#![tactic(auto)]
+
 ghost use Rattle.std.specs.Prelude.{◌≡◌, length, set};
 ghost use Rattle.mark_numbers.specs.Marks.{marks_in};
 ghost use Rattle.schedule.specs.Schedule.{schedule};

@@ -2,7 +2,9 @@
 // it. The rest is definitions and laws: see `specs/` and `proofs/`.
 
 // Whose bundle a change is to.
-#[derive(Drop)]
+#![tactic(auto)]
+
+#[derive(Clone, Copy)]
 pub enum Whose {
     DeskA,
     DeskB,
@@ -11,7 +13,7 @@ pub enum Whose {
 
 // What a desk sees of a change: nothing of the other desk's, else whether it is of its own bundle or of the
 // calendars.
-#[derive(Drop)]
+#[derive(Clone, Copy)]
 pub enum Seen {
     Nothing,
     Own,

@@ -1,1 +1,3 @@
 // What the definitions of the desks mean is laws alone: see `proofs/`.
+
+#![tactic(auto)]

@@ -9,6 +9,8 @@
 //   2 make: the same and the output, whose byte i was before the seed and 7 i together, its lowest eight
 //           bits
 // The program ends where the input does, and at a case that is too long or asks nothing known.
+#![tactic(auto)]
+
 ghost use Rattle.std.specs.Prelude.{◌≤◌};
 
 use board::Board;

@@ -1,4 +1,6 @@
 // A bundle put into a drawer, and the bundle of a drawer's files taken out.
+#![tactic(auto)]
+
 ghost use Rattle.std.specs.Prelude.{◌≡◌, cond, ◌++◌, ◌+◌, ◌*◌, ◌^◌, ◌≤◌, ◌<◌, length, take, drop};
 ghost use Rattle.bundle_bytes.specs.Words.{word_of};
 ghost use Rattle.bundle_bytes.specs.Pieces.{joined, written};

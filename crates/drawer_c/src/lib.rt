@@ -2,6 +2,8 @@
 // out. A board is three lists of 81 numbers. Judging, trying and making are done in the lent workspace `work`:
 // one that is too short is refused as 14, and what they leave in it may be lent again. A call that is refused
 // leaves everything as it was, but for a judgement, which makes the marks 'not judged' unless a list is wrong.
+#![tactic(auto)]
+
 ghost use Rattle.std.specs.Prelude.{◌≡◌, length};
 ghost use Rattle.mark_numbers.specs.Marks.{marks_in};
 ghost use Rattle.bundle_layout.specs.Bundle.{offset_at, length_at};

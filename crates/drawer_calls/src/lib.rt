@@ -1,1 +1,3 @@
 // What the calls over a drawer answer, for any gate. No code.
+
+#![tactic(auto)]

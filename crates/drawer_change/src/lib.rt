@@ -1,5 +1,7 @@
 // A change made in a drawer: the files moved down where no gap is long enough, the new bytes at
 // their place, and the header. Nothing else is written.
+#![tactic(auto)]
+
 ghost use Rattle.std.specs.Prelude.{◌≡◌, ◌++◌, ◌+◌, ◌*◌, ◌^◌, ◌≤◌, ◌<◌, length, drop, set};
 ghost use Rattle.parts.specs.Files.{new_file};
 ghost use Rattle.bundle_bytes.specs.Words.{word_of};

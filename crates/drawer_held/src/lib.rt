@@ -1,4 +1,6 @@
 // A drawer's files, and whether a change of it is refused.
+#![tactic(auto)]
+
 ghost use Rattle.std.specs.Prelude.{◌≡◌, ◌<◌, ◌+◌, cond, length};
 ghost use Rattle.parts.specs.Files.{bytes_of, new_file};
 ghost use Rattle.bundle_layout.specs.Bundle.{bundle_length};

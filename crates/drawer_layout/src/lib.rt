@@ -1,6 +1,8 @@
 // Where the files of a drawer stand: whether they stand apart, and the lowest gap between them.
 // The offsets and the lengths are two lists in the order of the files' numbers; one past a list's
 // end counts 0.
+#![tactic(auto)]
+
 ghost use Rattle.std.specs.Prelude.{◌≡◌, ◌+◌, ◌^◌, ◌<◌, get_or};
 ghost use Rattle.drawer_layout.specs.Places.{share_byte, stands_inside, stand_apart, lowest_gap};
 ghost use Rattle.drawer_layout.specs.Way.{Way};

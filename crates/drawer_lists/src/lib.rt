@@ -1,6 +1,8 @@
 // The calls over a drawer (document 02, order 12) and what else a caller lends: a workspace, and lists for
 // the marks. The files are read where they stand in the drawer, and a changed one in the new bytes; a change
 // is judged before it is made.
+#![tactic(auto)]
+
 ghost use Rattle.std.specs.Prelude.{◌≡◌, cond, List, ℕ, ◌≤◌, ◌<◌, ◌/◌, length, eqb};
 ghost use Rattle.parts.specs.Files.{new_file};
 ghost use Rattle.mark_numbers.specs.Marks.{marks_in};

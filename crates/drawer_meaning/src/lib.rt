@@ -1,1 +1,3 @@
 // What a change of a drawer comes to is laws alone: see `proofs/`.
+
+#![tactic(auto)]

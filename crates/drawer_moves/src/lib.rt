@@ -1,4 +1,6 @@
 // The files of a drawer moved down in place, each byte at most once and never upwards.
+#![tactic(auto)]
+
 ghost use Rattle.std.specs.Prelude.{◌≡◌, true, ◌+◌, ◌≤◌, ◌<◌, length, take, drop};
 ghost use Rattle.bundle_bytes.specs.Pieces.{written};
 ghost use Rattle.drawer_layout.specs.Places.{stand_apart};

@@ -1,4 +1,6 @@
 // Where a change puts its bytes, and where the other files go when they are moved down.
+#![tactic(auto)]
+
 ghost use Rattle.std.specs.Prelude.{◌≡◌, cond, ◌≤◌, ◌*◌, ◌^◌, get_or};
 ghost use Rattle.drawer_layout.specs.Places.{comes_before, length_before, all_lengths, moved_to};
 ghost use Rattle.drawer_places.specs.Choice.{chosen};
@@ -6,7 +8,7 @@ ghost use Rattle.drawer_places.specs.Choice.{chosen};
 use drawer_layout::{lowest_gap, number_in};
 
 // The place of the new bytes, 0 for a file that is withdrawn, and whether the files are moved.
-#[derive(Drop)]
+#[derive(Clone, Copy)]
 pub struct Choice {
     pub place: usize,
     pub moved: bool,

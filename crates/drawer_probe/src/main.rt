@@ -12,6 +12,8 @@
 //     and 7 i together, its lowest eight bits
 //   6 list it: the length of the text, and the text
 // The program ends where the input does, and at a case that is too long or asks nothing known.
+#![tactic(auto)]
+
 use board::Board;
 use bundle_bytes::word_at;
 use cases::{fill_front, lay, low, read_board, write_board, write_file, write_number, write_part};

@@ -1,1 +1,3 @@
 // Runs of changes in a drawer are laws alone: see `proofs/`.
+
+#![tactic(auto)]

@@ -1,5 +1,7 @@
 // A drawer as a text: the files that it holds and where they stand, the gaps between them, and how many
 // bytes are free. Each function puts what it makes as `output` does, and answers the place behind it.
+#![tactic(auto)]
+
 ghost use Rattle.std.specs.Prelude.{◌≡◌, true, ◌+◌, ◌-◌, ◌^◌, ◌<◌, length};
 ghost use Rattle.bundle_bytes.specs.Pieces.{joined};
 ghost use Rattle.drawer_layout.specs.Places.{stand_apart};
@@ -45,7 +47,7 @@ fn put_all_held(out: &mut [u8], at: usize, d: &[u8]) -> usize
 }
 
 // Bytes of a drawer: the place of the first, and the one behind the last.
-#[derive(Drop)]
+#[derive(Clone, Copy)]
 struct Stretch {
     start: usize,
     end: usize,

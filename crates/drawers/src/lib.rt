@@ -1,5 +1,7 @@
 // Document 02, order 12, with a board: judge a drawer in full, ask for a file of it, try a change, make it in
 // place. Each call is the one over lists, and the ones that own their memory are those that are lent it.
+#![tactic(auto)]
+
 ghost use Rattle.std.specs.Prelude.{◌≡◌, length};
 ghost use Rattle.parts.specs.Files.{new_file};
 ghost use Rattle.mark_numbers.specs.Marks.{fresh_marks};
@@ -17,7 +19,7 @@ use drawer_held::{held_part, held_state};
 use drawer_lists::{judge_drawer_lists, make_drawer_lists, try_drawer_lists};
 
 // How a call ends: a refusal or 0, and the board.
-#[derive(Drop)]
+#[derive(Clone, Copy)]
 pub struct Drawn {
     pub refusal: u32,
     pub board: Board,

@@ -1,4 +1,6 @@
 // The exact sums of a table of assignments by element of cost, four elements by six columns.
+#![tactic(auto)]
+
 ghost use Rattle.std.specs.Prelude.{◌≡◌, ◌+◌, ◌<◌, ◌≤◌, length};
 ghost use Rattle.exact_sums.specs.Sums.{wholes};
 ghost use Rattle.rule_cells.specs.Cells.{table};
@@ -13,7 +15,7 @@ const FIRST_COLUMN: usize = 2;
 const COLUMN_COUNT: usize = 6;
 
 // Whether all amounts fit, and the sums then, element by element; else all are 0.
-#[derive(Drop)]
+#[derive(Clone, Copy)]
 pub struct Sums {
     pub fits: bool,
     pub sums: [i64; 24],

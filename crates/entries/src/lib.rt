@@ -1,5 +1,7 @@
 // The entries of a table's records, by the sums of their keys, written as plain numbers into a lent list
 // behind the table's cells.
+#![tactic(auto)]
+
 ghost use Rattle.std.specs.Prelude.{◌≡◌, ◌+◌, ◌-◌, ◌*◌, ◌<◌, ◌≤◌, true, map, length};
 ghost use Rattle.bundle_bytes.specs.Pieces.{written};
 ghost use Rattle.parts.specs.Part.{part_of};
@@ -15,7 +17,7 @@ use table_rows::cell_at;
 
 // The entry of a record: where its key's text starts in its file, how long it is as written, without the
 // quotes, the key's sum, and the record's number from 1.
-#[derive(Drop)]
+#[derive(Clone, Copy)]
 pub struct Entry {
     pub start: u32,
     pub length: u32,

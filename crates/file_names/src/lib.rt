@@ -1,4 +1,6 @@
 // The names of the 20 files of a set and of their tables.
+#![tactic(auto)]
+
 ghost use Rattle.std.specs.Prelude.{◌≡◌, ◌-◌};
 ghost use Rattle.file_names.specs.Names.{file_name, table_name};
 ghost use Rattle.output.specs.Output.{output_at, put};

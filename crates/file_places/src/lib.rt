@@ -1,5 +1,7 @@
 // Where a part stands that a call hands back: of a bundle, of a drawer, and of the files after a change. A part's
 // statement says which bytes it has; these say where they are.
+#![tactic(auto)]
+
 ghost use Rattle.std.specs.Prelude.{◌≡◌};
 ghost use Rattle.parts.specs.Files.{new_file};
 ghost use Rattle.bundle_layout.specs.Bundle.{offset_at, length_at};
@@ -9,14 +11,14 @@ use bundle::{length_at, lookup_fault, offset_at};
 use drawer_held::{held_fault, new_part};
 
 // The first byte of a part, and how many it has.
-#[derive(Drop)]
+#[derive(Clone, Copy)]
 pub struct PartPlace {
     pub start: usize,
     pub length: usize,
 }
 
 // The same of a part after a change, and whether it is that of the changed file, of the new bytes and not of the bundle.
-#[derive(Drop)]
+#[derive(Clone, Copy)]
 pub struct PartAfter {
     pub changed: bool,
     pub start: usize,

@@ -2,6 +2,8 @@
 // and a file written. No contract can say what comes from outside or goes there. What is promised is how many bytes
 // there can be, and that a bundle which is made is one that is not refused. Where something is wrong, they
 // say on standard error what it is and what to do.
+#![tactic(auto)]
+
 ghost use Rattle.std.specs.Prelude.{◌≡◌, ◌≤◌, length};
 ghost use Rattle.gate_lists.specs.Which.{gate_called};
 ghost use Rattle.folder.specs.Answers.{FoundWithin, Bundled};
@@ -16,7 +18,7 @@ use parts::part;
 use program_io::{Input, complain, read_all};
 
 // What stands under a name: n bytes, nothing, or what cannot be read.
-#[derive(Drop)]
+#[derive(Clone, Copy)]
 pub enum Found {
     Bytes { n: usize },
     Nothing,

@@ -1,5 +1,7 @@
 // A mark from lists in which files were read: the cells of all files in one list, and each file's mark
 // and the number of its records in lists of their own. What stands past the end of a list is 0.
+#![tactic(auto)]
+
 ghost use Rattle.std.specs.Prelude.{◌≡◌, ◌+◌, ◌*◌, get_or, take};
 ghost use Rattle.parts.specs.Part.{part_of};
 ghost use Rattle.standing.specs.Standing.{standing};

@@ -1,5 +1,7 @@
 // Document 01's three calls with a board: judge a bundle in full, try a change, make it; and what is told
 // of one mark. Each is the call over lists, and the ones that own their memory are those that are lent it.
+#![tactic(auto)]
+
 ghost use Rattle.std.specs.Prelude.{◌≡◌, length};
 ghost use Rattle.parts.specs.Files.{new_file};
 ghost use Rattle.bundle_layout.specs.Change.{output};
@@ -17,7 +19,7 @@ use parts::part;
 use reason_answer::{Reason, Shown};
 
 // How a call ends: a refusal or 0, the length of the bundle that was judged (0 if refused), the board.
-#[derive(Drop)]
+#[derive(Clone, Copy)]
 pub struct Verdict {
     pub refusal: u32,
     pub length: usize,

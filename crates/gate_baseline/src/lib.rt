@@ -1,6 +1,8 @@
 // The baseline profile's calls with its board of 85 marks: judge a bundle in full, try a change, make it;
 // and what is told of one mark. Each is the call over lists, and the ones that own their memory are those
 // that are lent it.
+#![tactic(auto)]
+
 ghost use Rattle.std.specs.Prelude.{◌≡◌, cond, ◌++◌, ◌≤◌, length, drop, leb};
 ghost use Rattle.parts.specs.Files.{new_file};
 ghost use Rattle.bundle_layout.specs.Change.{output};
@@ -20,7 +22,7 @@ use report::report;
 
 // ---- The board
 
-#[derive(Drop)]
+#[derive(Clone, Copy)]
 pub struct Board {
     pub kinds: [u32; 85],
     pub places: [usize; 85],
@@ -69,7 +71,7 @@ pub fn report_board(refusal: u32, board: Board, out: &mut [u8]) -> usize
 // ---- The calls
 
 // How a call ends: a refusal or 0, the length of the bundle that was judged (0 if refused), the board.
-#[derive(Drop)]
+#[derive(Clone, Copy)]
 pub struct Verdict {
     pub refusal: u32,
     pub length: usize,

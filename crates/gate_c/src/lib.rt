@@ -2,6 +2,8 @@
 // says which gate. A board is three lists of as many numbers as it has marks. A call whose lists have
 // other lengths than they must have answers 100 and writes nothing. Judging, trying, making and telling a reason are done in the lent workspace `work`: one that
 // is too short is refused as 14, and what they leave in it may be lent again.
+#![tactic(auto)]
+
 ghost use Rattle.std.specs.Prelude.{◌≡◌, ◌++◌, length, drop, set};
 ghost use Rattle.mark_numbers.specs.Marks.{marks_in, faults_in};
 ghost use Rattle.reason_numbers.specs.Numbers.{told_numbers};

@@ -1,5 +1,7 @@
 // The calls with a list of entries, over what a caller lends but the list itself: its length comes in as
 // a number, and the entries are left as numbers in the workspace, behind the cells.
+#![tactic(auto)]
+
 ghost use Rattle.std.specs.Prelude.{◌≡◌, ◌≤◌, cond, length, eqb, ltb};
 ghost use Rattle.parts.specs.Files.{new_file};
 ghost use Rattle.mark_numbers.specs.Marks.{marks_in};
@@ -20,7 +22,7 @@ use set_entries::list_set;
 
 // How a call with a list ends: a refusal or 0, the length of the bundle that was judged, and how many
 // entries the list starts with; both 0 if refused.
-#[derive(Drop)]
+#[derive(Clone, Copy)]
 pub struct Listed {
     pub refusal: u32,
     pub length: usize,

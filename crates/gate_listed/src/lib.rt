@@ -1,5 +1,7 @@
 // The calls with a lent list of entries: thin functions over the calls that leave the entries as numbers
 // in the workspace. Only these touch the list.
+#![tactic(auto)]
+
 ghost use Rattle.std.specs.Prelude.{◌≡◌, ◌++◌, ◌+◌, ◌*◌, ◌≤◌, ◌<◌, length, drop};
 ghost use Rattle.parts.specs.Files.{new_file};
 ghost use Rattle.mark_numbers.specs.Marks.{marks_in};

@@ -1,4 +1,6 @@
 // The calls of each gate over what a caller lends: a workspace, and lists for the marks.
+#![tactic(auto)]
+
 ghost use Rattle.std.specs.Prelude.{◌≡◌, cond, ◌+◌, ◌≤◌, ◌<◌, ◌/◌, length, eqb};
 ghost use Rattle.parts.specs.Files.{new_file};
 ghost use Rattle.standing.specs.Standing.{standing, start_standing};
@@ -24,7 +26,7 @@ use schedule::{schedule_marks, schedule_reason};
 use standing::place;
 
 // The gates: document 01's, that of document 02's baseline profile, and that of its contract side.
-#[derive(Drop)]
+#[derive(Clone, Copy)]
 pub enum Which {
     Schedule,
     Baseline,

@@ -2,6 +2,8 @@
 // describe the gate; the files are parts of three lent slices. Each file that a judged mark reads is
 // read once, into a place of its own in a lent list of cells, and each rule is judged over the cells of
 // the files that its row names.
+#![tactic(auto)]
+
 ghost use Rattle.std.specs.Prelude.{◌≡◌, true, cond, ◌&&◌, [], ◌+◌, ◌-◌, ◌*◌, ◌/◌, ◌≤◌, ◌<◌, length, set, take, drop, ltb, leb};
 ghost use Rattle.parts.specs.Files.{new_file};
 ghost use Rattle.standing.specs.Standing.{standing};
@@ -25,7 +27,7 @@ use table_rows::{cell_at, field_count, first_field, rows_after};
 
 // What is judged: every mark, after a change those that read the changed file, or one mark alone with
 // those of the files that it reads.
-#[derive(Drop)]
+#[derive(Clone, Copy)]
 pub enum Scope {
     Full,
     Change { file: usize },

@@ -1,4 +1,6 @@
 // The names of each gate's files, tables and fields, put into an output as `output` does.
+#![tactic(auto)]
+
 ghost use Rattle.std.specs.Prelude.{◌≡◌};
 ghost use Rattle.output.specs.Output.{output_at, put};
 ghost use Rattle.table_fields.specs.Fields.{fields_of};

@@ -1,4 +1,6 @@
 // Which gate an argument of a program names, and which argument what is judged by it.
+#![tactic(auto)]
+
 ghost use Rattle.std.specs.Prelude.{◌≡◌};
 ghost use Rattle.gate_option.specs.Option.{gate_named, asked_by};
 
@@ -6,7 +8,7 @@ use check::same;
 use gate_lists::Which;
 
 // A gate, or none.
-#[derive(Drop)]
+#[derive(Clone, Copy)]
 pub enum Named {
     Gate { which: Which },
     Nothing,
@@ -31,7 +33,7 @@ pub fn gate_named(word: &[u8]) -> Named
 
 // By which gate a program is asked to judge, and which argument names what is judged; or nothing that can
 // be told.
-#[derive(Drop)]
+#[derive(Clone, Copy)]
 pub enum Asked {
     Of { which: Which, named: usize },
     Unclear,

@@ -1,6 +1,8 @@
 // The plain engine in one call, to compare with: every mark by itself, from the bytes of the files that it
 // reads, and every rule that searches by comparing each record with all others. It keeps no cells from
 // one mark to the next and no order of the records.
+#![tactic(auto)]
+
 ghost use Rattle.std.specs.Prelude.{◌≡◌, true, ◌+◌, ◌/◌, ◌≤◌, length, take};
 ghost use Rattle.mark_numbers.specs.Marks.{marks_in, have_length};
 ghost use Rattle.rule_shape.specs.Rule.{rule_from, first_file_of, second_file_of};

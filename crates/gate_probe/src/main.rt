@@ -14,6 +14,8 @@
 //             file searched; 0 for the rest
 //   8:        as 7, in such a workspace
 // The program ends where the input does, and at a case that is too long or asks nothing known.
+#![tactic(auto)]
+
 use board::{Board, fresh};
 use bundle::{file_part, file_state};
 use bundle_bytes::word_at;

@@ -14,6 +14,8 @@
 //             file searched; 0 for the rest
 // The calls are those over lists, in a workspace that holds what the case before left there. The program
 // ends where the input does, and at a case that is too long or asks nothing known.
+#![tactic(auto)]
+
 ghost use Rattle.std.specs.Prelude.{◌≤◌};
 
 use bundle::{Made, file_part, file_state};
@@ -24,7 +26,7 @@ use libc::STDIN_FILENO;
 use parts::part;
 use program_io::fill;
 
-#[derive(Drop)]
+#[derive(Clone, Copy)]
 enum Gate {
     Known { which: Which },
     Unknown,

@@ -1,1 +1,3 @@
 // The grammar of JSON is definitions alone: crates above it prove that the readers read it.
+
+#![tactic(auto)]

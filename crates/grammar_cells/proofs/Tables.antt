@@ -257,9 +257,9 @@ module _ (fields : List Field) (s : Bytes) where
 
   -- the records of a file that holds are the objects of its text, in order, and its cells those of their members
   pub file-is : (single : Bool) (cells : List ℕ) → (read_table single fields s cells).read.kind ≡ 0 → (text : Text s) → FileIs single fields s text (read_table single fields s cells)
-  file-is single cells q text =
+  file-is single cells q root =
       let h = held single cells q in
-      let same : named_records single h.0 ≡ named_records single text = records-one single h.0 text in
+      let same : named_records single h.0 ≡ named_records single root = records-one single h.0 root in
       record {
         count = h.1.count ∙ ap length same;
         rows = λ r l. subst (λ (rows : List (List Named)). RowIs fields s (read_table single fields s cells).cells r (get_or rows r [])) same (h.1.rows r l);

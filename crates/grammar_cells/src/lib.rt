@@ -1,1 +1,3 @@
 // The cells of a file beside its objects are definitions and laws alone.
+
+#![tactic(auto)]

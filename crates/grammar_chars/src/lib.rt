@@ -1,1 +1,3 @@
 // The readers of characters beside the grammar are laws alone.
+
+#![tactic(auto)]

@@ -1,1 +1,3 @@
 // The reading of files beside the grammar is laws alone.
+
+#![tactic(auto)]

@@ -1,1 +1,3 @@
 // The number reader beside the grammar is laws alone.
+
+#![tactic(auto)]

@@ -1,5 +1,7 @@
 // The joined set of a desk (document 02, order 10) as a bundle: the desk's own with files 6, 7 and 8 of the
 // shared one put in.
+#![tactic(auto)]
+
 ghost use Rattle.std.specs.Prelude.{◌≡◌, ◌≤◌, length};
 ghost use Rattle.bundle_layout.specs.Bundle.{file_at, bundle_length};
 ghost use Rattle.bundle_layout.specs.Change.{output, output_of};

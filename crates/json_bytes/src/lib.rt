@@ -1,11 +1,13 @@
 // What every reader of a file's bytes stands on: a byte at a place, or eight of them, the answer of a
 // reader, and the two simplest readers.
+#![tactic(auto)]
+
 ghost use Rattle.std.specs.Prelude.{◌≡◌, ◌+◌, ◌≤◌, ◌<◌, length};
 ghost use Rattle.json_bytes.specs.Eight.{packed_at, eight_at};
 ghost use Rattle.json_bytes.specs.Reads.{byte_at, within, is_space, spaces_end, literal_at, spelled_at};
 
 // What reading a token gives: the place behind it, or the kind and place of its fault.
-#[derive(Drop)]
+#[derive(Clone, Copy)]
 pub enum Reading {
     Whole { end: usize },
     Fault { kind: u32, place: usize },

@@ -1,6 +1,8 @@
 // One character of a JSON string, decoded where it stands: escapes, surrogate pairs and UTF-8.
 // The answer carries the place behind the character, so that a caller can walk a string, and point
 // at a character, without a copy.
+#![tactic(auto)]
+
 ghost use Rattle.std.specs.Prelude.{◌≡◌, cond, eqb, ◌+◌, ◌^◌, ◌<◌, length};
 ghost use Rattle.json_chars.specs.Step.{second, is_two, is_three, is_four, sequence_of, sequence_at, letter_escape, hex_digit, digit_at, unit_at, unit_of, escaped_at, is_pair, surrogates_joined, escape_at, step_at};
 ghost use Rattle.json_bytes.specs.Reads.{byte_at};
@@ -8,7 +10,7 @@ ghost use Rattle.json_bytes.specs.Reads.{byte_at};
 use json_bytes::{byte_at, is_within};
 
 // What stands at a place inside a string.
-#[derive(Drop)]
+#[derive(Clone, Copy)]
 pub enum Step {
     // A character: its code (D800 to DFFF only for an unpaired surrogate escape) and the place behind it.
     Char { code: u32, next: usize },
@@ -19,7 +21,7 @@ pub enum Step {
 }
 
 // Four hexadecimal digits: their number, or the place of the first byte that is none.
-#[derive(Drop)]
+#[derive(Clone, Copy)]
 pub enum Unit16 {
     Hex { unit: u32 },
     NoHex { place: usize },

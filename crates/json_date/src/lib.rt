@@ -1,5 +1,7 @@
 // A date from the decoded characters of a string where it stands. Ten characters are collected at
 // most; then the form, and then the calendar, decide.
+#![tactic(auto)]
+
 ghost use Rattle.std.specs.Prelude.{◌≡◌, true, ◌⊎◌, ◌+◌, ◌≤◌, ◌<◌, length, take, drop};
 ghost use Rattle.json_bytes.specs.Reads.{byte_at, within};
 ghost use Rattle.json_chars.specs.Chars.{chars_at};
@@ -10,7 +12,7 @@ use json_bytes::{byte_at, is_within};
 use json_chars::{Step, step_at};
 
 // A day of the calendar, or a string that is none.
-#[derive(Drop)]
+#[derive(Clone, Copy)]
 pub enum Date {
     Day { year: u32, month: u32, day: u32 },
     NoDate,

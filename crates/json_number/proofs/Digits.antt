@@ -64,13 +64,13 @@ module _ (x b : ℕ) (range : (48 ≤ b) × (b ≤ 57)) where
       go (yes e) (no n) = omega (arith, (digit-behind e n).1)
       go (no n) z = omega (arith, (digit-other n).1)
 
-  pub carried-turn : {value kept zeros value' kept' zeros' : ℕ} → Carried x value kept zeros → value' ≡ min (value * 10 + (b - 48)) cap → zeros' ≡ cond (eqb b 48) (cond (eqb kept 0) 0 (zeros + 1)) 0 → kept' ≡ cond (eqb b 48) kept value' → Carried (x * 10 + (b - 48)) value' kept' zeros'
-  carried-turn {value} {kept} {zeros} {value'} {kept'} {zeros'} h ve ze ke = go (ℕ_discrete b 48) (ℕ_discrete x 0)
+  pub carried-turn : {value kept trailing value' kept' trailing' : ℕ} → Carried x value kept trailing → value' ≡ min (value * 10 + (b - 48)) cap → trailing' ≡ cond (eqb b 48) (cond (eqb kept 0) 0 (trailing + 1)) 0 → kept' ≡ cond (eqb b 48) kept value' → Carried (x * 10 + (b - 48)) value' kept' trailing'
+  carried-turn {value} {kept} {trailing} {value'} {kept'} {trailing'} h ve ze ke = go (ℕ_discrete b 48) (ℕ_discrete x 0)
     where
       all : value' ≡ min (x * 10 + (b - 48)) cap
       all = omega (arith, h.0)
 
-      go : Dec (b ≡ 48) → Dec (x ≡ 0) → Carried (x * 10 + (b - 48)) value' kept' zeros'
+      go : Dec (b ≡ 48) → Dec (x ≡ 0) → Carried (x * 10 + (b - 48)) value' kept' trailing'
       go (yes e) (yes z) =
           let gone : kept ≡ 0 = h.1 ∙ rw z (rw trimmed-zero (omega arith)) in (
             all,
@@ -92,10 +92,10 @@ module _ (x b : ℕ) (range : (48 ≤ b) × (b ≤ 57)) where
 -- the loop over digits: what is carried of x goes on to what is carried of a number behind which the digits from i on form
 -- what those from `at` on form behind x
 abbrev pub Goes : List ℕ → ℕ → ℕ → ℕ → ℕ → ℕ → ℕ → ℕ → ℕ → Type 0
-Goes s at before nonzero ending i value kept zeros = (x : ℕ) → Carried x before nonzero ending → (y : ℕ) × Carried y value kept zeros × (formed y (drop i s) ≡ formed x (drop at s))
+Goes s at before nonzero ending i value kept trailing = (x : ℕ) → Carried x before nonzero ending → (y : ℕ) × Carried y value kept trailing × (formed y (drop i s) ≡ formed x (drop at s))
 
-module _ (s : List ℕ) (at before nonzero ending i : ℕ) {value kept zeros : ℕ} (g : Goes s at before nonzero ending i value kept zeros) where
-  pub goes_on : {value' kept' zeros' : ℕ} → i < length s → is_digit (byte_at s i) ≡ true → value' ≡ min (value * 10 + (byte_at s i - 48)) cap → zeros' ≡ cond (eqb (byte_at s i) 48) (cond (eqb kept 0) 0 (zeros + 1)) 0 → kept' ≡ cond (eqb (byte_at s i) 48) kept value' → Goes s at before nonzero ending (i + 1) value' kept' zeros'
+module _ (s : List ℕ) (at before nonzero ending i : ℕ) {value kept trailing : ℕ} (g : Goes s at before nonzero ending i value kept trailing) where
+  pub goes_on : {value' kept' trailing' : ℕ} → i < length s → is_digit (byte_at s i) ≡ true → value' ≡ min (value * 10 + (byte_at s i - 48)) cap → trailing' ≡ cond (eqb (byte_at s i) 48) (cond (eqb kept 0) 0 (trailing + 1)) 0 → kept' ≡ cond (eqb (byte_at s i) 48) kept value' → Goes s at before nonzero ending (i + 1) value' kept' trailing'
   goes_on l d ve ze ke x h =
       let y : ℕ = (g x h).0 in (
         y * 10 + (byte_at s i - 48),
@@ -103,13 +103,13 @@ module _ (s : List ℕ) (at before nonzero ending i : ℕ) {value kept zeros : �
         sym (formed-more s i y l d) ∙ (g x h).2,
       )
 
-  pub goes-ends : ((y : ℕ) → formed y (drop i s) ≡ y) → (x : ℕ) → Carried x before nonzero ending → Carried (formed x (drop at s)) value kept zeros
+  pub goes-ends : ((y : ℕ) → formed y (drop i s) ≡ y) → (x : ℕ) → Carried x before nonzero ending → Carried (formed x (drop at s)) value kept trailing
   goes-ends f x h = rw (← (g x h).2, f (g x h).0) (g x h).1
 
-pub zeros-bound : (b kept zeros zeros' i : ℕ) → zeros' ≡ cond (eqb b 48) (cond (eqb kept 0) 0 (zeros + 1)) 0 → zeros ≤ i → zeros' ≤ i + 1
-zeros-bound b kept zeros zeros' i = go (eqb b 48) (eqb kept 0)
+pub zeros-bound : (b kept trailing trailing' i : ℕ) → trailing' ≡ cond (eqb b 48) (cond (eqb kept 0) 0 (trailing + 1)) 0 → trailing ≤ i → trailing' ≤ i + 1
+zeros-bound b kept trailing trailing' i = go (eqb b 48) (eqb kept 0)
   where
-    go : (t u : Bool) → zeros' ≡ cond t (cond u 0 (zeros + 1)) 0 → zeros ≤ i → zeros' ≤ i + 1
+    go : (t u : Bool) → trailing' ≡ cond t (cond u 0 (trailing + 1)) 0 → trailing ≤ i → trailing' ≤ i + 1
     go true true e h = omega (arith, e)
     go true false e h = omega (arith, e)
     go false u e h = omega (arith, e)

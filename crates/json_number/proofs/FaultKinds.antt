@@ -23,15 +23,15 @@ number_kinds = 11 ∷ []
 abbrev Known : Number → Type 0
 Known n = Faults number_kinds n.reading
 
-exponent-kinds : (negative : Bool) (c zeros fraction : ℕ) (x : Exponent) → Known (with_exponent negative c zeros fraction x)
+exponent-kinds : (negative : Bool) (c trailing fraction : ℕ) (x : Exponent) → Known (with_exponent negative c trailing fraction x)
 unfolding with_exponent
-exponent-kinds negative c zeros fraction (Power end below e) = tt
-exponent-kinds negative c zeros fraction (NoPower place) = refl
+exponent-kinds negative c trailing fraction (Power end below e) = tt
+exponent-kinds negative c trailing fraction (NoPower place) = refl
 
 module _ (s : List ℕ) where
   coefficient-kinds : (negative : Bool) (k : Coefficient) → Known (with_coefficient s negative k)
   unfolding with_coefficient
-  coefficient-kinds negative (Digits end c zeros fraction) = exponent-kinds negative c zeros fraction (exponent_at s end)
+  coefficient-kinds negative (Digits end c trailing fraction) = exponent-kinds negative c trailing fraction (exponent_at s end)
   coefficient-kinds negative (NoDigit place) = refl
 
   pub number-kinds : (at : ℕ) → Faults number_kinds (number_at s at).reading

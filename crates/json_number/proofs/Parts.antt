@@ -25,14 +25,14 @@ module _ (s : List ℕ) (i b : ℕ) (is : b ≡ byte_at s i) (x : ℕ) where
   unfolding fraction_at
   fraction-none n = rw (← is, ne_eqb b 46 n)
 
-  pub fraction-absent : (b ≡ 46 → ⊥) → {value kept zeros : ℕ} → Carried x value kept zeros → Digits i kept zeros 0 ≡ capped_coefficient (fraction_at s i x)
+  pub fraction-absent : (b ≡ 46 → ⊥) → {value kept trailing : ℕ} → Carried x value kept trailing → Digits i kept trailing 0 ≡ capped_coefficient (fraction_at s i x)
   fraction-absent n h = rw (fraction-none n, h.1, h.2)
 
   pub fraction-empty : b ≡ 46 → {end : ℕ} → end ≡ i + 1 + digits_at s (i + 1) → end ≡ i + 1 → NoDigit (i + 1) ≡ capped_coefficient (fraction_at s i x)
   unfolding fraction_at
   fraction-empty e r h = rw (← is, eq-eqb b 46 e, run_none (digits_at s (i + 1)) r h)
 
-  pub fraction-stands : b ≡ 46 → {end value kept zeros : ℕ} → end ≡ i + 1 + digits_at s (i + 1) → Carried (formed x (drop (i + 1) s)) value kept zeros → (end ≡ i + 1 → ⊥) → Digits end kept zeros (end - (i + 1)) ≡ capped_coefficient (fraction_at s i x)
+  pub fraction-stands : b ≡ 46 → {end value kept trailing : ℕ} → end ≡ i + 1 + digits_at s (i + 1) → Carried (formed x (drop (i + 1) s)) value kept trailing → (end ≡ i + 1 → ⊥) → Digits end kept trailing (end - (i + 1)) ≡ capped_coefficient (fraction_at s i x)
   unfolding fraction_at
   fraction-stands e {end} r f h =
       let n : end - (i + 1) ≡ digits_at s (i + 1) = omega arith in
@@ -99,19 +99,19 @@ exponent-bound (NoPower p) {r} {end} {below} {e} q w =
     let z : ◌≡◌ {A = ℕ} 0 1 = cc in
     omega arith
 
-module _ (negative : Bool) (c zeros fraction : ℕ) where
-  pub exponent-stands : zeros < 2 ^ 63 → fraction < 2 ^ 63 → (x : Exponent) {r : Exponent} {end : ℕ} {below : Bool} {e : ℕ} {v : Value} → r ≡ capped_exponent x → r ≡ Power end below e → v ≡ value_of negative c zeros fraction below e → record { reading = Whole end; value = v } ≡ with_exponent negative c zeros fraction x
+module _ (negative : Bool) (c trailing fraction : ℕ) where
+  pub exponent-stands : trailing < 2 ^ 63 → fraction < 2 ^ 63 → (x : Exponent) {r : Exponent} {end : ℕ} {below : Bool} {e : ℕ} {v : Value} → r ≡ capped_exponent x → r ≡ Power end below e → v ≡ value_of negative c trailing fraction below e → record { reading = Whole end; value = v } ≡ with_exponent negative c trailing fraction x
   unfolding with_exponent
   exponent-stands k f (Power end' below' e') {r} {end} {below} {e} {v} q w h =
       let ends : end ≡ end' = cc in
       let signs : below ≡ below' = cc in
       let sizes : e ≡ min e' cap = cc in
-      rw (ends, h, signs, sizes, e-capped negative c zeros fraction below' e' k f)
+      rw (ends, h, signs, sizes, e-capped negative c trailing fraction below' e' k f)
   exponent-stands k f (NoPower p) {r} {end} {below} {e} {v} q w h =
       let z : ◌≡◌ {A = ℕ} 0 1 = cc in
       absurd (omega arith)
 
-  pub exponent-stops : (x : Exponent) {r : Exponent} {place : ℕ} → r ≡ capped_exponent x → r ≡ NoPower place → stopped_at place ≡ with_exponent negative c zeros fraction x
+  pub exponent-stops : (x : Exponent) {r : Exponent} {place : ℕ} → r ≡ capped_exponent x → r ≡ NoPower place → stopped_at place ≡ with_exponent negative c trailing fraction x
   unfolding with_exponent
   exponent-stops (Power end below e) {r} {place} q w =
       let z : ◌≡◌ {A = ℕ} 0 1 = cc in
@@ -120,27 +120,27 @@ module _ (negative : Bool) (c zeros fraction : ℕ) where
       let places : place ≡ p = cc in
       ap stopped_at places
 
-  pub exponent-c-capped : (x : Exponent) → with_exponent negative (min c cap) zeros fraction x ≡ with_exponent negative c zeros fraction x
+  pub exponent-c-capped : (x : Exponent) → with_exponent negative (min c cap) trailing fraction x ≡ with_exponent negative c trailing fraction x
   unfolding with_exponent
-  exponent-c-capped (Power end below e) = rw (c-capped negative c zeros fraction below e)
+  exponent-c-capped (Power end below e) = rw (c-capped negative c trailing fraction below e)
   exponent-c-capped (NoPower p) = refl
 
 module _ (s : List ℕ) (negative : Bool) where
-  pub coefficient-stands : (k : Coefficient) {r : Coefficient} {end c zeros fraction : ℕ} → r ≡ capped_coefficient k → r ≡ Digits end c zeros fraction → with_exponent negative c zeros fraction (exponent_at s end) ≡ with_coefficient s negative k
+  pub coefficient-stands : (k : Coefficient) {r : Coefficient} {end c trailing fraction : ℕ} → r ≡ capped_coefficient k → r ≡ Digits end c trailing fraction → with_exponent negative c trailing fraction (exponent_at s end) ≡ with_coefficient s negative k
   unfolding with_coefficient
-  coefficient-stands (Digits end' c' zeros' fraction') {r} {end} {c} {zeros} {fraction} q w =
+  coefficient-stands (Digits end' c' trailing' fraction') {r} {end} {c} {trailing} {fraction} q w =
       let ends : end ≡ end' = cc in
       let sizes : c ≡ min c' cap = cc in
-      let ending : zeros ≡ zeros' = cc in
+      let ending : trailing ≡ trailing' = cc in
       let counts : fraction ≡ fraction' = cc in
-      rw (ends, sizes, ending, counts) (exponent-c-capped negative c' zeros' fraction' (exponent_at s end'))
-  coefficient-stands (NoDigit p) {r} {end} {c} {zeros} {fraction} q w =
+      rw (ends, sizes, ending, counts) (exponent-c-capped negative c' trailing' fraction' (exponent_at s end'))
+  coefficient-stands (NoDigit p) {r} {end} {c} {trailing} {fraction} q w =
       let z : ◌≡◌ {A = ℕ} 0 1 = cc in
       absurd (omega arith)
 
   pub coefficient-stops : (k : Coefficient) {r : Coefficient} {place : ℕ} → r ≡ capped_coefficient k → r ≡ NoDigit place → stopped_at place ≡ with_coefficient s negative k
   unfolding with_coefficient
-  coefficient-stops (Digits end c zeros fraction) {r} {place} q w =
+  coefficient-stops (Digits end c trailing fraction) {r} {place} q w =
       let z : ◌≡◌ {A = ℕ} 0 1 = cc in
       absurd (omega arith)
   coefficient-stops (NoDigit p) {r} {place} q w =

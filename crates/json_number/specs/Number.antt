@@ -92,8 +92,8 @@ limited negative c up down = cond (leb down (up + 15) && within_limits c (up + 1
 -- "p the exponent less the count of fraction digits", raised by the zeros that c has lost; "zero as c 0, p 0 without a sign".
 -- "The limits on c and p then apply to that form."
 unfoldable pub value_of : Bool → ℕ → ℕ → ℕ → Bool → ℕ → Value
-value_of negative c zeros fraction below e =
-    cond (eqb c 0) (Fits false 0 15) (limited negative c (cond below 0 e + zeros) (cond below (e + fraction) fraction))
+value_of negative c trailing fraction below e =
+    cond (eqb c 0) (Fits false 0 15) (limited negative c (cond below 0 e + trailing) (cond below (e + fraction) fraction))
 
 -- the form of a value: zero has one, and any other c ends in a digit that is not 0
 abbrev pub InForm : Bool → ℕ → ℕ → Type 0
@@ -105,12 +105,12 @@ abbrev pub stopped_at : ℕ → Number
 stopped_at place = record { reading = Fault 11 place; value = Beyond }
 
 unfoldable pub with_exponent : Bool → ℕ → ℕ → ℕ → Exponent → Number
-with_exponent negative c zeros fraction (Power end below e) =
-    record { reading = Whole end; value = value_of negative c zeros fraction below e }
-with_exponent negative c zeros fraction (NoPower place) = stopped_at place
+with_exponent negative c trailing fraction (Power end below e) =
+    record { reading = Whole end; value = value_of negative c trailing fraction below e }
+with_exponent negative c trailing fraction (NoPower place) = stopped_at place
 
 unfoldable pub with_coefficient : List ℕ → Bool → Coefficient → Number
-with_coefficient s negative (Digits end c zeros fraction) = with_exponent negative c zeros fraction (exponent_at s end)
+with_coefficient s negative (Digits end c trailing fraction) = with_exponent negative c trailing fraction (exponent_at s end)
 with_coefficient s negative (NoDigit place) = stopped_at place
 
 unfoldable pub number_at : List ℕ → ℕ → Number

@@ -1,6 +1,8 @@
 // Numbers: where one ends, its value in one form, and what the rules ask of a value.
 // No run of digits, however long, wraps or is read twice: a number that digits form is kept up to
 // ten to the nineteenth, which is beyond every limit.
+#![tactic(auto)]
+
 ghost use Rattle.std.specs.Prelude.{◌≡◌, cond, ℕ, ◌+◌, ◌*◌, ◌-◌, ◌^◌, ◌≤◌, ◌<◌, min, length, drop, eqb};
 ghost use Rattle.json_number.specs.Number.{is_digit, digits_at, formed, fraction_at, coefficient_at, power_digits_at, signed_at, exponent_at, value_of, stopped_at, with_exponent, with_coefficient, number_at, largest, within_limits, whole_of, integer_of, sign_of, magnitude, same_parts, same_value};
 ghost use Rattle.json_number.specs.Alone.{goes_on, one_digit};
@@ -17,21 +19,21 @@ const NO_SIGN: bool = false;
 
 // A number's value, ±c times 10 to the p, with p kept as p + 15; or that c or p is outside the
 // limits. A number that is read has one form: c ends in no zero, and zero is c 0, p 0, not negative.
-#[derive(Drop)]
+#[derive(Clone, Copy)]
 pub enum Value {
     Fits { negative: bool, c: u64, p15: u32 },
     Beyond,
 }
 
 // A number read whole, or its fault, which leaves it no value: `Beyond`.
-#[derive(Drop)]
+#[derive(Clone, Copy)]
 pub struct Number {
     pub reading: Reading,
     pub value: Value,
 }
 
 // A value as an Integer. `Is` is negative only where the magnitude is not 0.
-#[derive(Drop)]
+#[derive(Clone, Copy)]
 pub enum Integer {
     Is { negative: bool, magnitude: u64 },
     // Not whole: kind 34.
@@ -41,7 +43,7 @@ pub enum Integer {
 }
 
 // A value beside zero.
-#[derive(Drop)]
+#[derive(Clone, Copy)]
 pub enum Sign {
     Zero,
     Above,
@@ -51,7 +53,7 @@ pub enum Sign {
 // The digits before any exponent: the place behind them, the number that they form without the
 // zeros at its end, how many those are, and how many are fraction digits; or the place where a digit
 // is missing.
-#[derive(Drop)]
+#[derive(Clone, Copy)]
 enum Coefficient {
     Digits {
         end: usize,
@@ -66,7 +68,7 @@ enum Coefficient {
 
 // The exponent: the place behind it, whether it is below zero, and its size; or the place where a
 // digit is missing.
-#[derive(Drop)]
+#[derive(Clone, Copy)]
 enum Exponent {
     Power { end: usize, below: bool, size: u64 },
     NoPower { place: usize },
@@ -74,7 +76,7 @@ enum Exponent {
 
 // The place behind a run of digits, the number that they form behind those before it, that number
 // without the zeros at its end, and how many those are.
-#[derive(Drop)]
+#[derive(Clone, Copy)]
 struct Run {
     end: usize,
     value: u64,

@@ -2,6 +2,8 @@
 // one run. A case on standard input is five little-endian u32 (op, at, other, length of A, length of
 // B) and the bytes of A and of B; its answer on standard output is four little-endian u64. The
 // program ends where the input does, and at a case that is too long.
+#![tactic(auto)]
+
 ghost use Rattle.std.specs.Prelude.{◌+◌, ◌≤◌, length};
 
 use bundle_bytes::word_at;
@@ -15,7 +17,7 @@ use libc::{STDIN_FILENO, STDOUT_FILENO};
 use program_io::{fill, put_long};
 
 // Which answer it is, and up to three numbers that go with it.
-#[derive(Drop)]
+#[derive(Clone, Copy)]
 struct Answer {
     t: u64,
     a: u64,
@@ -24,7 +26,7 @@ struct Answer {
 }
 
 // What stands before the bytes of a case: n of A and m of B.
-#[derive(Drop)]
+#[derive(Clone, Copy)]
 enum Header {
     Asks {
         op: u32,
@@ -36,7 +38,7 @@ enum Header {
     Nothing,
 }
 
-#[derive(Drop)]
+#[derive(Clone, Copy)]
 enum Next {
     Answered(Answer),
     End,

@@ -1,5 +1,7 @@
 // Whether two strings have the same characters, walked side by side where they stand: of any
 // length, in one slice or two, escapes decoded on the way, with no copy.
+#![tactic(auto)]
+
 ghost use Rattle.std.specs.Prelude.{◌≡◌, ◌&&◌, ◌⊎◌, ◌≤◌, length};
 ghost use Rattle.json_chars.specs.Chars.{chars_at};
 ghost use Rattle.json_same.specs.Same.{cased_as, same_as, is_plain};
@@ -10,7 +12,7 @@ use json_chars::{Step, step_at};
 use json_text::{first_byte, odd_bytes};
 
 // How letters are compared: names as they are, IDs and enumeration values with A–Z folded to a–z.
-#[derive(Drop)]
+#[derive(Clone, Copy)]
 pub enum Case {
     Kept,
     Folded,
@@ -78,7 +80,7 @@ fn are_plain(p: u32, q: u32) -> bool
 }
 
 // Two bytes side by side, a character beginning at each.
-#[derive(Drop)]
+#[derive(Clone, Copy)]
 enum Pair {
     // Both stand for themselves, and are the same as they are compared.
     Same,
@@ -89,7 +91,7 @@ enum Pair {
 }
 
 // How far two strings go side by side, byte by byte.
-#[derive(Drop)]
+#[derive(Clone, Copy)]
 enum Run {
     // To two bytes that are apart.
     Differs,

@@ -1,4 +1,6 @@
 // A string read whole, with the first character that breaks a rule of its type, in one pass.
+#![tactic(auto)]
+
 ghost use Rattle.std.specs.Prelude.{◌≡◌, ◌≤◌, true, ◌||◌, length};
 ghost use Rattle.json_text.specs.Eight.{odd_bytes, no_space_bytes, stop_bytes, first_byte};
 ghost use Rattle.json_text.specs.Run.{is_graphic, run_end, plain_end, edge_behind, Words};
@@ -9,7 +11,7 @@ use json_bytes::{Reading, byte_at, eight_at, is_within};
 use json_chars::{Step, step_at};
 
 // The three types of text, each with its rules.
-#[derive(Drop)]
+#[derive(Clone, Copy)]
 pub enum TextType {
     Text,
     String,
@@ -18,13 +20,13 @@ pub enum TextType {
 
 // The first wrong character: the rule it breaks (1 barred control, 2 whitespace, 3 outside the ID
 // set, 4 unpaired surrogate; 0 where no character is wrong) and the place of its first byte.
-#[derive(Drop)]
+#[derive(Clone, Copy)]
 pub struct Wrong {
     pub rule: u32,
     pub place: usize,
 }
 
-#[derive(Drop)]
+#[derive(Clone, Copy)]
 pub struct TextRead {
     pub reading: Reading,
     pub wrong: Wrong,

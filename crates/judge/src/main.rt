@@ -1,4 +1,6 @@
 // Judges the bundle on standard input, of up to 65,536 bytes, and prints its marks.
+#![tactic(auto)]
+
 ghost use Rattle.std.specs.Prelude.{◌≡◌, ◌≤◌, length, take};
 ghost use Rattle.judge.specs.Printed.{printed};
 

@@ -1,5 +1,7 @@
 // Judges the bundle on standard input, of up to 65,536 bytes, by the baseline profile, and prints its
 // marks.
+#![tactic(auto)]
+
 ghost use Rattle.std.specs.Prelude.{◌≡◌, ◌≤◌, length, take};
 ghost use Rattle.judge_baseline.specs.Printed.{printed};
 

@@ -1,5 +1,7 @@
 // Judges the bundle on standard input, of up to 65,536 bytes, by the contract side's gate, and prints its
 // marks.
+#![tactic(auto)]
+
 ghost use Rattle.std.specs.Prelude.{◌≡◌, ◌≤◌, length, take};
 ghost use Rattle.judge_contract.specs.Printed.{printed};
 

@@ -1,6 +1,8 @@
 // Judges the set of files in a folder, by document 01's gate, with --baseline by the baseline profile or
 // with --contract by the contract side's gate, and prints its marks as the programs `judge`,
 // `judge_baseline` and `judge_contract` do.
+#![tactic(auto)]
+
 use folder::{argument, gather};
 use gate_lists::Which;
 use gate_option::{Asked, asked_by};

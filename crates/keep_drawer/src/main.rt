@@ -11,6 +11,8 @@
 // FILE is never written in place. A change is made in memory; where it is refused, nothing is written. Else
 // the whole drawer goes to FILE.new, which then takes FILE's name. So a program that is stopped midway leaves
 // FILE as it was, and at most FILE.new beside it, which the next change writes anew.
+#![tactic(auto)]
+
 ghost use Rattle.std.specs.Prelude.{◌≤◌};
 
 use board::report_board;
@@ -29,7 +31,7 @@ use program_io::{complain, print};
 use reason_text::reasons;
 use report::put_counted;
 
-#[derive(Drop)]
+#[derive(Clone, Copy)]
 enum Command {
     New,
     Put,

@@ -1,5 +1,7 @@
 // A text, or two of one record, looked up in an order of a table's records: by the first one's sum, and
 // where sums are equal by the texts, in some log n steps.
+#![tactic(auto)]
+
 ghost use Rattle.std.specs.Prelude.{◌≡◌, not};
 ghost use Rattle.json_chars.specs.Chars.{chars_at};
 ghost use Rattle.rule_cells.specs.Cells.{table};
@@ -16,7 +18,7 @@ use text_order::{Compared, text_order};
 
 // What is looked up: a text in field m and, where the kind is 1, in field k of the same record the text
 // at `also`, which stands in the table that is searched.
-#[derive(Drop)]
+#[derive(Clone, Copy)]
 pub struct Lookup {
     pub m: usize,
     pub k: usize,

@@ -1,5 +1,7 @@
 // The sum of a key where it stands: a 32-bit number that is the same for two strings that are the
 // same text, and that seldom is for two that are not. No copy is made: escapes are decoded on the way.
+#![tactic(auto)]
+
 ghost use Rattle.std.specs.Prelude.{◌≡◌, ◌*◌, ◌%◌, ◌^◌};
 ghost use Rattle.json_same.specs.Same.{cased_as};
 ghost use Rattle.json_same.specs.Walk.{beginning};

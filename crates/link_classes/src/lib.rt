@@ -1,5 +1,7 @@
 // The IDs of links as numbers, through an order of the links by their predecessors: two IDs that are the
 // same have one number.
+#![tactic(auto)]
+
 ghost use Rattle.std.specs.Prelude.{◌≡◌, true, ℕ, length};
 ghost use Rattle.json_chars.specs.Chars.{chars_at};
 ghost use Rattle.mark_numbers.specs.Marks.{list_of};

@@ -1,6 +1,8 @@
 // A loop among links, each from one class of equal IDs to another: a walk into the depth that meets a
 // class of its own way has found one, and a walk that has been through every class shows that there is
 // none. In step with the number of links.
+#![tactic(auto)]
+
 ghost use Rattle.std.specs.Prelude.{◌≡◌, true, false, ℕ, ◌+◌, ◌-◌, ◌≤◌, ◌<◌, length, get_or, set, drop, ◌++◌};
 ghost use Rattle.mark_numbers.specs.Marks.{list_of};
 ghost use Rattle.link_loops.specs.Loop.{ShowsRing};
@@ -9,7 +11,7 @@ ghost use Rattle.link_loops.specs.Walk.{Unchained, Chained, Unwalked, BlankColum
 
 // Where a walk ended: with the links from place `start` of the way up to `end`, which are a loop. Where
 // the two are the same there is none.
-#[derive(Drop)]
+#[derive(Clone, Copy)]
 struct Ring {
     start: usize,
     end: usize,

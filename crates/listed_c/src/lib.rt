@@ -1,6 +1,8 @@
 // The calls with a lent list of entries (document 02, order 7), and the plain engine's, for programs in other
 // languages: numbers and lent lists in, a number out. A board is three lists of 81, the list of entries has four
 // numbers for each. A number out of place is refused as 101 before all else, and everything left as it is.
+#![tactic(auto)]
+
 ghost use Rattle.std.specs.Prelude.{◌≡◌, length};
 ghost use Rattle.mark_numbers.specs.Marks.{marks_in};
 ghost use Rattle.bundle_layout.specs.Bundle.{file_at};

@@ -1,6 +1,8 @@
 // The calls with a list of entries that is lent as plain numbers, four an entry: start, length, sum and
 // record. What has no structs in common with this language, a program in C or one that reads and writes
 // bytes, lends a list in this form.
+#![tactic(auto)]
+
 ghost use Rattle.std.specs.Prelude.{◌≡◌, ◌+◌, ◌*◌, ◌≤◌, ◌<◌, length};
 ghost use Rattle.parts.specs.Files.{new_file};
 ghost use Rattle.mark_numbers.specs.Marks.{marks_in};

@@ -6,6 +6,8 @@
 // to judge by the plain engine, without one. The answer is the refusal, the length, the number of entries, the
 // 81 marks, and the whole output and the whole list, each byte of which was 0xA5 before. The program ends where
 // the input does, and at a case that is too long or asks nothing known.
+#![tactic(auto)]
+
 ghost use Rattle.std.specs.Prelude.{◌≤◌, length};
 
 use bundle_bytes::{put_word, word_at};
@@ -21,7 +23,7 @@ use program_io::fill;
 const BOARD: usize = 972;
 
 // What a case asks, but for the bundle, the new bytes and the marks.
-#[derive(Drop)]
+#[derive(Clone, Copy)]
 struct Asked {
     op: u32,
     k: usize,

@@ -1,5 +1,7 @@
 // The text of a loop among the links of a set: what is shown, and each link in words. A function that puts
 // something puts it as `output` does, and answers the place behind it.
+#![tactic(auto)]
+
 ghost use Rattle.std.specs.Prelude.{◌≡◌, cond, ◌+◌, ◌-◌, ◌≤◌, ◌<◌, length, take};
 ghost use Rattle.output.specs.Output.{output_at, put};
 ghost use Rattle.rule_cells.specs.Cells.{table};

@@ -1,5 +1,7 @@
 // Shows a loop among the links of the bundle on standard input, of up to 65,536 bytes: `none`, or its record
 // numbers, with --explain each link in words besides.
+#![tactic(auto)]
+
 ghost use Rattle.loops.specs.Printed.{PrintsLoop};
 
 use check::same;

@@ -1,5 +1,7 @@
 // A loop among the links of a set (document 02, order 14) for programs in other languages: numbers and lent
 // lists in, a number out.
+#![tactic(auto)]
+
 ghost use Rattle.std.specs.Prelude.{◌≡◌, length};
 ghost use Rattle.loops_c.specs.Calls.{refusal_shown, records_shown, LoopCalled};
 

@@ -1,4 +1,6 @@
 // Shows a loop among the links of the set of files in a folder, as the program `loops` does.
+#![tactic(auto)]
+
 use check::same;
 use folder::{argument, gather};
 use gate_lists::Which;

@@ -6,6 +6,8 @@
 // and the text, and for any other number the same explained.
 // The workspace is lent, and holds what the case before left in it. The program ends where the input does, and
 // at a case that is too long.
+#![tactic(auto)]
+
 use bundle_bytes::{put_word, word_at};
 use cases::{fill_front, low};
 use libc::{STDIN_FILENO, STDOUT_FILENO};

@@ -1,11 +1,13 @@
 // A mark as three numbers, and marks as three lists. They stand here alone, so that what keeps or prints
 // marks need know no rule, and so that nobody else goes through the three lists one by one.
+#![tactic(auto)]
+
 ghost use Rattle.std.specs.Prelude.{◌≡◌, true, length, get_or, set};
 ghost use Rattle.mark_numbers.specs.Marks.{marks_in, mark_in, with_mark, have_length, fresh_marks, fresh_over, faults_in};
 
 // Kind 0, place 0, companion 0: it holds. Any other kind says what is wrong, the place where, and the
 // companion which record goes with it, 0 for none.
-#[derive(Drop)]
+#[derive(Clone, Copy)]
 pub struct Mark {
     pub kind: u32,
     pub place: usize,

@@ -1,5 +1,7 @@
 // How many numbers below x stand at the front of a list in order, by halving: a list of 4,096 is
 // looked at thirteen times.
+#![tactic(auto)]
+
 ghost use Rattle.std.specs.Prelude.{◌≡◌};
 ghost use Rattle.number_search.specs.Search.{below, searched};
 

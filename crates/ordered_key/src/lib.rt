@@ -3,6 +3,8 @@
 // a key starts with: keys of different sums are not compared. Records whose keys ascend, or that come in
 // groups of one second ID, need none of this: each is asked by itself, so that who asks it first makes no
 // lists for them.
+#![tactic(auto)]
+
 ghost use Rattle.std.specs.Prelude.{◌≡◌, ◌+◌, ◌<◌, ◌≤◌, length};
 ghost use Rattle.rule_cells.specs.Cells.{table};
 ghost use Rattle.rule_key.specs.Key.{same_key, key_rule};

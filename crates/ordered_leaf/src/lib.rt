@@ -1,5 +1,7 @@
 // The rule on leaves through an order of the elements that have a child: these are picked out once, and
 // what a record names is looked up among them.
+#![tactic(auto)]
+
 ghost use Rattle.std.specs.Prelude.{◌≡◌, ◌++◌, ◌≤◌, length, drop};
 ghost use Rattle.rule_cells.specs.Cells.{table, start_of, first_that};
 ghost use Rattle.rule_tree.specs.Tree.{leaf_rule};

@@ -2,6 +2,8 @@
 // listed, so that the task of each parent is at the parent's own place, which is tried first. Where
 // some is not, through an order of the tasks: by ID and then by type, so that one lookup tells
 // whether some task has both.
+#![tactic(auto)]
+
 ghost use Rattle.std.specs.Prelude.{◌≡◌, true, false, ℕ};
 ghost use Rattle.rule_cells.specs.Cells.{table, is_word, first_that};
 ghost use Rattle.rule_outline.specs.Outline.{held_in, outline_at, some_of, is_typed, parent_type_breaks, parent_type_rule};

@@ -7,6 +7,8 @@
 // Slots only guess: a record that stands there is compared, and one that does not may still be a target, as where
 // too many have one place. So what they don't answer, which mostly is a value that no target record has, takes the
 // dearest way: the target records are put in order, and the value is looked up there, as are all behind it.
+#![tactic(auto)]
+
 ghost use Rattle.std.specs.Prelude.{◌≡◌, ◌+◌, ◌-◌, ◌*◌, ◌<◌, ◌≤◌, true, false, length, drop, if◌then◌else◌, ◌==◌, nat_lt};
 ghost use Rattle.json_bytes.specs.Reads.{byte_at};
 ghost use Rattle.json_chars.specs.Chars.{chars_at};
@@ -31,7 +33,7 @@ use rule_when::holds_when;
 use table_name::same_bytes;
 
 // Whether a target was found, and near which record the next one is tried: the one that was found last.
-#[derive(Drop)]
+#[derive(Clone, Copy)]
 struct Near {
     found: bool,
     record: usize,

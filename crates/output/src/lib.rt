@@ -1,4 +1,6 @@
 // Bytes, texts and numbers put into an output that is lent, one behind the other.
+#![tactic(auto)]
+
 ghost use Rattle.std.specs.Prelude.{◌≡◌, [], ◌∷◌, ◌+◌, ◌%◌};
 ghost use Rattle.output.specs.Decimal.{decimal};
 ghost use Rattle.output.specs.Output.{output_at, put, ended};

@@ -1,4 +1,6 @@
 // A part of lent bytes, handed back as that part itself and never a copy.
+#![tactic(auto)]
+
 ghost use Rattle.std.specs.Prelude.{◌≡◌};
 ghost use Rattle.parts.specs.Part.{part_of};
 

@@ -1,6 +1,8 @@
 // A rule judged by plain search alone: keys, targets and the parents' types by the functions that compare
 // each record with all others, every other rule as it is. It answers what `rules` answers through an
 // order of the records.
+#![tactic(auto)]
+
 ghost use Rattle.std.specs.Prelude.{◌≡◌};
 ghost use Rattle.rule_cells.specs.Cells.{table};
 ghost use Rattle.rule_key.specs.Key.{key_rule};

@@ -8,6 +8,8 @@
 // set's; where that would be too long for a bundle, and with --marks, as the desk's board has them. Where the
 // calendars were written while a desk was refused, that desk starts again from a full judgement. The last
 // line says whether both sets are accepted at the end. It needs some 12 MB of stack, which `./desks` asks for.
+#![tactic(auto)]
+
 ghost use Rattle.std.specs.Prelude.{◌≤◌};
 
 use board::{Board, is_accepted, report_board};
@@ -28,7 +30,7 @@ use reason_text::reasons;
 
 // What is at hand between two changes, beside the bundles, which stand in buffers: how long they are, the
 // boards, and whether the play goes on.
-#[derive(Drop)]
+#[derive(Clone, Copy)]
 struct Hand {
     length_a: usize,
     length_b: usize,
@@ -152,7 +154,7 @@ fn file_at(i: usize) -> usize {
 }
 
 // The new bytes that an argument names.
-#[derive(Drop)]
+#[derive(Clone, Copy)]
 enum New {
     Bytes { n: usize },
     Withdrawn,
@@ -637,7 +639,7 @@ fn play(
 }
 
 // How long the bundles of the folders are; 0 for the calendars' where there is none.
-#[derive(Drop)]
+#[derive(Clone, Copy)]
 struct Lengths {
     a: usize,
     b: usize,

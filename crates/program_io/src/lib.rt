@@ -1,5 +1,7 @@
 // What the programs share of reading and writing. No contract can say what comes from outside or goes
 // there, so the functions that read and write promise only how many bytes there can be.
+#![tactic(auto)]
+
 ghost use Rattle.std.specs.Prelude.{◌≡◌, length};
 ghost use Rattle.bundle_bytes.specs.Pieces.{written};
 ghost use Rattle.program_io.specs.Wire.{long_of};
@@ -9,7 +11,7 @@ use bundle_bytes::put_word;
 use libc::{STDERR_FILENO, STDOUT_FILENO};
 
 // An input that was read to its end, or until the buffer was full, and its n bytes; or a read that failed.
-#[derive(Drop)]
+#[derive(Clone, Copy)]
 pub enum Input {
     Whole { n: usize },
     Failed,

@@ -1,5 +1,7 @@
 // The quarter of document 02, order 11: exact totals of assigned dollars and hours by element of cost over
 // up to 256 sets. A state goes in by value and comes back.
+#![tactic(auto)]
+
 ghost use Rattle.std.specs.Prelude.{◌≡◌, false, ℕ, ◌+◌, ◌≤◌, ◌<◌, length, take, nat_abs};
 ghost use Rattle.exact_sums.specs.Sums.{whole_at};
 ghost use Rattle.quarter.specs.Quarter.{started, is_refused, refused_with, accepted_as, taken, taken_in, taken_left, trues, left_out};
@@ -10,7 +12,7 @@ use set_sums::set_sums;
 
 // Totals of four elements by six columns, in ten-thousandths, element by element; how many sets came; and
 // for each place of the run whether that set was left out.
-#[derive(Drop)]
+#[derive(Clone, Copy)]
 pub struct Quarter {
     pub totals: [i64; 24],
     pub sets: usize,
@@ -19,7 +21,7 @@ pub struct Quarter {
 
 // How a call ends: with a refusal or 0, the state then, and the grand totals of the six columns, all 0
 // after a refusal.
-#[derive(Drop)]
+#[derive(Clone, Copy)]
 pub struct Taken {
     pub refusal: u32,
     pub quarter: Quarter,

@@ -1,5 +1,7 @@
 // The quarter for programs in other languages: its state as lists that the caller lends, 24 totals, how many
 // sets came and 256 flags, and the six grand totals beside it.
+#![tactic(auto)]
+
 ghost use Rattle.std.specs.Prelude.{◌≡◌, length, take};
 ghost use Rattle.quarter.specs.Quarter.{taken_in, taken_left, trues};
 ghost use Rattle.quarter_c.specs.Handed.{handed};

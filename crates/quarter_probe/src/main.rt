@@ -5,6 +5,8 @@
 // numbers, and how many sets are left out as a u32.
 // The workspace is lent, and holds what the case before left in it. The program ends where the input does, and
 // at a case that is too long.
+#![tactic(auto)]
+
 ghost use Rattle.std.specs.Prelude.{◌≤◌, ◌<◌, ◌≡◌};
 
 use bundle_bytes::{put_word, word_at};

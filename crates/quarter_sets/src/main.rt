@@ -3,6 +3,8 @@
 // how many sets are left out; and for each of these a line that says why. With --progress it says on standard
 // error which set it takes; options stand first, --csv before --progress. Where a set can't be read, or there
 // are over 256, it says so on standard error and prints nothing.
+#![tactic(auto)]
+
 use board::faults_on;
 use bundle_bytes::put_part;
 use check::same;
@@ -18,7 +20,7 @@ use quarter_text::{put_comma_text, put_table};
 
 // What was asked for: whether comma-separated values, whether progress, and the number of the first argument
 // that names a set.
-#[derive(Drop)]
+#[derive(Clone, Copy)]
 struct Asked {
     comma: bool,
     progress: bool,

@@ -1,5 +1,7 @@
 // The totals of a quarter as a text, a table or comma-separated values. Each function puts what it makes as
 // `output` does, and answers the place behind it.
+#![tactic(auto)]
+
 ghost use Rattle.std.specs.Prelude.{◌≡◌, ◌-◌, ◌≤◌, length};
 ghost use Rattle.exact_sums.specs.Sums.{whole_at};
 ghost use Rattle.output.specs.Output.{output_at, put};

@@ -1,6 +1,8 @@
 // What is told of one mark, for any gate and wherever its files stand: it is judged with the marks of the
 // files that it reads, and where a rule is broken the field that decides is found and where its value
 // stands.
+#![tactic(auto)]
+
 ghost use Rattle.std.specs.Prelude.{◌≡◌, true, cond, ◌+◌, ◌-◌, ◌*◌, ◌/◌, ◌<◌, length};
 ghost use Rattle.standing.specs.Standing.{standing, start_standing};
 ghost use Rattle.mark_numbers.specs.Marks.{marks_in, mark_in, have_length};

@@ -2,7 +2,9 @@
 // reason or hands it to C need know no rule.
 
 // What is shown of a rule that is broken.
-#[derive(Drop)]
+#![tactic(auto)]
+
+#[derive(Clone, Copy)]
 pub struct Shown {
     // the file whose record breaks the rule
     pub file: usize,
@@ -18,7 +20,7 @@ pub struct Shown {
     pub length: usize,
 }
 
-#[derive(Drop)]
+#[derive(Clone, Copy)]
 pub enum Reason {
     // 14 for a workspace that is too short, before all else; 1, 2 and 3 for the bundle; then 7 for a
     // number that is no mark's

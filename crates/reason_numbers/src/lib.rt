@@ -1,4 +1,6 @@
 // A reason as nine numbers in a list, for programs in other languages, which know no Rattle enum.
+#![tactic(auto)]
+
 ghost use Rattle.std.specs.Prelude.{◌≡◌, length};
 ghost use Rattle.reason_numbers.specs.Numbers.{shown_numbers, told_numbers, told_over};
 

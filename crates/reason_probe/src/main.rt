@@ -4,6 +4,8 @@
 // with 1 more for marks grouped as the folder's program has them) and the bundle; the answer is the text's
 // length and the text.
 // The program ends where the input does, and at a bundle that is too long or a gate that is not known.
+#![tactic(auto)]
+
 use bundle_bytes::{put_word, word_at};
 use cases::{fill_front, low};
 use gate_lists::Which;

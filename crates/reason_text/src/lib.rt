@@ -1,4 +1,6 @@
 // The text of the marks that a gate gives a bundle, with the reason beside each that doesn't hold.
+#![tactic(auto)]
+
 ghost use Rattle.std.specs.Prelude.{◌≡◌, true, cond, [], ◌≤◌, length, take, eqb};
 ghost use Rattle.output.specs.Output.{output_at, put};
 ghost use Rattle.text_place.specs.Place.{spot_at, count_where};

@@ -1,6 +1,8 @@
 // Judges the bundle on standard input, of up to 65,536 bytes, by document 01's gate, with --baseline by the
 // baseline profile or with --contract by the contract side's gate, and prints its marks, each that doesn't
 // hold with the reason beside it.
+#![tactic(auto)]
+
 ghost use Rattle.std.specs.Prelude.{◌≡◌, length, take};
 ghost use Rattle.reasons.specs.Printed.{printed};
 

@@ -1,6 +1,8 @@
 // Judges the set of files in a folder, by document 01's gate, with --baseline by the baseline profile or
 // with --contract by the contract side's gate, and prints its marks as the program `reasons` does, but for
 // marks that aren't judged: these are told file by file.
+#![tactic(auto)]
+
 use folder::{argument, gather};
 use gate_lists::Which;
 use gate_option::{Asked, asked_by};

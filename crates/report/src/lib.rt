@@ -1,4 +1,6 @@
 // The judging program's text, made from marks or a refusal.
+#![tactic(auto)]
+
 ghost use Rattle.std.specs.Prelude.{◌≡◌, ◌++◌, ◌≤◌, length, drop};
 ghost use Rattle.mark_numbers.specs.Marks.{marks_in};
 ghost use Rattle.report.specs.Report.{counted, line_numbers, line_of, lines_up_to, last_line, board_text, text_in};

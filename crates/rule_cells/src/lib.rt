@@ -1,5 +1,7 @@
 // What a rule sees of a readable table: for each record and field whether it holds a value, where
 // the value stands, and what it is. Records and fields are counted from 0.
+#![tactic(auto)]
+
 ghost use Rattle.std.specs.Prelude.{◌≡◌, ◌+◌, ◌*◌, ◌≤◌, ◌<◌};
 ghost use Rattle.rule_cells.specs.Cells.{table, cell_of, start_of, is_given, same_text, is_word, is_true, integer_in, date_in, sign_in};
 

@@ -1,4 +1,6 @@
 // The rule over two Dates of a record: where both are given, the first is not after the second.
+#![tactic(auto)]
+
 ghost use Rattle.std.specs.Prelude.{◌≡◌};
 ghost use Rattle.rule_cells.specs.Cells.{table};
 ghost use Rattle.rule_dates.specs.Dates.{is_later, is_after, breaks_order, dates_in_order_rule};

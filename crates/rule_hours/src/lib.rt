@@ -1,5 +1,7 @@
 // Rules over the run of fields `from` to `to`, which is no part of it, of every record of a table:
 // hours beside zero, fields that are null together, and fields that are all given or none.
+#![tactic(auto)]
+
 ghost use Rattle.std.specs.Prelude.{◌≡◌};
 ghost use Rattle.rule_cells.specs.Cells.{table, is_given, first_that};
 ghost use Rattle.rule_hours.specs.Hours.{below_zero, above_zero, first_field_that, any_field, lies_below, is_null, breaks, none_below_rule, some_above_rule, together_rule, all_given_rule, none_given_rule};
@@ -9,7 +11,7 @@ use json_number::Sign;
 use rule_cells::{is_given, sign_in};
 
 // What is asked of a field.
-#[derive(Drop)]
+#[derive(Clone, Copy)]
 enum Ask {
     Negative,
     Positive,
@@ -18,7 +20,7 @@ enum Ask {
 }
 
 // How a record breaks a rule.
-#[derive(Drop)]
+#[derive(Clone, Copy)]
 enum Shape {
     SomeBelow,
     NoneAbove,

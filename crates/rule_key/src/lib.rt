@@ -1,4 +1,6 @@
 // The rule "primary key": no record of a table has the key of an earlier one.
+#![tactic(auto)]
+
 ghost use Rattle.std.specs.Prelude.{◌≡◌, ◌&&◌, eqb};
 ghost use Rattle.json_number.specs.Number.{same_sign};
 ghost use Rattle.rule_cells.specs.Cells.{table};
@@ -10,7 +12,7 @@ use rule_cells::{date_in, integer_in, same_in};
 
 // The fields of a key, each with its kind: 1 an ID, 2 an Integer, 3 a Date, and any other number
 // where the key has no such field.
-#[derive(Drop)]
+#[derive(Clone, Copy)]
 pub struct Key {
     pub a: usize,
     pub a_kind: u32,
@@ -22,7 +24,7 @@ pub struct Key {
 
 // The first record that has the key of an earlier one, and the earliest that has it, both counted
 // from 1; 0 and 0 where no record does.
-#[derive(Drop)]
+#[derive(Clone, Copy)]
 pub struct KeyBreak {
     pub record: usize,
     pub same: usize,

@@ -1,6 +1,8 @@
 // The rules of an outline, over a table with a column of Levels: the run of Levels, the parent of
 // each record, and the type of the parent's task. Fields are given by number, so that any table
 // with such a column can be judged.
+#![tactic(auto)]
+
 ghost use Rattle.std.specs.Prelude.{◌≡◌, length};
 ghost use Rattle.rule_cells.specs.Cells.{table};
 ghost use Rattle.rule_outline.specs.Outline.{level_of, lower_before, parents_up_to, parents_have_room, with_parents, held_in, run_breaks, level_rule, parent_shown, parent_breaks, parent_rule, some_of, is_typed, parent_type_breaks, parent_type_rule};
@@ -15,7 +17,7 @@ pub const LEVEL_ONE: u64 = 1_000_000_000_000_001;
 
 // The first breaking record and its parent, both counted from 1. No record: 0 and 0. The parent is
 // 0 where the record has none, or is of Level 1.
-#[derive(Drop)]
+#[derive(Clone, Copy)]
 pub struct Outline {
     pub record: usize,
     pub parent: usize,

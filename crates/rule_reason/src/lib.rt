@@ -1,4 +1,6 @@
 // The field that decides a rule which a record breaks, and the table that it searched in vain.
+#![tactic(auto)]
+
 ghost use Rattle.std.specs.Prelude.{◌≡◌};
 ghost use Rattle.rule_cells.specs.Cells.{table};
 ghost use Rattle.rule_shape.specs.Rule.{rule_from};
@@ -8,7 +10,7 @@ use rule_hours::{first_below, first_given, first_null};
 use rule_shape::{Rule, rule_at};
 
 // The file that a rule looks into for a target, where it is one of "targets".
-#[derive(Drop)]
+#[derive(Clone, Copy)]
 pub enum Searched {
     In { file: usize },
     Nowhere,

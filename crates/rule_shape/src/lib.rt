@@ -2,6 +2,8 @@
 // 02, and the rows of numbers that a list of rules is laid out in. A row is nine numbers: the shape, the file whose
 // records are judged, the file that is looked into, the deciding field, and five that the shape
 // reads.
+#![tactic(auto)]
+
 ghost use Rattle.std.specs.Prelude.{◌≡◌, ◌/◌, length};
 ghost use Rattle.table_rows.specs.Rows.{cell_at};
 ghost use Rattle.rule_shape.specs.Rule.{first_file_of, second_file_of, rule_of, rule_from};
@@ -12,7 +14,7 @@ use table_rows::cell_at;
 
 // Files go by number. Fields are counted within their table, enumeration values through all
 // enumerations; a run of fields ends before `to`.
-#[derive(Drop)]
+#[derive(Clone, Copy)]
 pub enum Rule {
     // 20–35, "primary keys": "Broken at a record whose key equals an earlier one's."
     KeyOf {

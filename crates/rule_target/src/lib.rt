@@ -1,5 +1,7 @@
 // A value that some record of another table must have too. The table searched is `u` with its cells;
 // a search stops at the first record that has the value.
+#![tactic(auto)]
+
 ghost use Rattle.std.specs.Prelude.{◌≡◌};
 ghost use Rattle.json_chars.specs.Chars.{chars_at};
 ghost use Rattle.rule_cells.specs.Cells.{table};
@@ -11,7 +13,7 @@ use rule_when::{When, holds_when};
 
 // The columns of a target rule: field k of the first table, under a condition, in field m of the
 // second.
-#[derive(Drop)]
+#[derive(Clone, Copy)]
 pub struct Target {
     pub k: usize,
     pub when: When,

@@ -1,6 +1,8 @@
 // The rules of a tree of elements, over a table with a column of Levels: the Levels, the parent of
 // each element, and that what another table names is a leaf. Fields are given by number, so that any
 // table with such a column can be judged.
+#![tactic(auto)]
+
 ghost use Rattle.std.specs.Prelude.{◌≡◌, ◌<◌};
 ghost use Rattle.rule_cells.specs.Cells.{table};
 ghost use Rattle.rule_outline.specs.Outline.{level_of, held_in, some_of};

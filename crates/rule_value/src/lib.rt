@@ -1,5 +1,7 @@
 // Rules on one field of a record: an enumeration's value, null unless a condition holds, given if
 // one does.
+#![tactic(auto)]
+
 ghost use Rattle.std.specs.Prelude.{◌≡◌, true, ◌+◌, ◌<◌, ltb};
 ghost use Rattle.table_rows.specs.Rows.{value_text_at};
 ghost use Rattle.table_name.specs.Guess.{quoted_end};
@@ -14,7 +16,7 @@ use rule_when::{When, holds_when, is_value};
 use table_name::{is_graphic_word, quoted_end};
 use table_rows::{value_end, value_start};
 
-#[derive(Drop)]
+#[derive(Clone, Copy)]
 pub enum FieldRule {
     // One of `count` enumeration values from number `first` on, or null.
     OneOf { first: u32, count: u32 },

@@ -1,4 +1,6 @@
 // A condition on one field of a record: given, true, or one of at most two enumeration values.
+#![tactic(auto)]
+
 ghost use Rattle.std.specs.Prelude.{◌≡◌, ◌||◌};
 ghost use Rattle.rule_cells.specs.Cells.{table};
 ghost use Rattle.rule_when.specs.When.{is_value, holds_when};
@@ -9,7 +11,7 @@ use table_rows::{value_end, value_start};
 
 // kind 0: always; 1: the field is given; 2: it is true; any other: it is value `first` or value
 // `second` of the enumeration values, by their numbers.
-#[derive(Drop)]
+#[derive(Clone, Copy)]
 pub struct When {
     pub kind: u32,
     pub field: usize,

@@ -1,4 +1,6 @@
 // A rule judged: the first record that breaks it, and the mark that this gives.
+#![tactic(auto)]
+
 ghost use Rattle.std.specs.Prelude.{◌≡◌};
 ghost use Rattle.rule_cells.specs.Cells.{table};
 ghost use Rattle.rule_key.specs.Key.{key_rule};
@@ -27,7 +29,7 @@ use table_rows::{value_end, value_start};
 
 // The first breaking record, counted from 1, and the record that goes with it: the earliest with
 // the same key, or the parent; 0 for none.
-#[derive(Drop)]
+#[derive(Clone, Copy)]
 pub struct Break {
     pub record: usize,
     pub other: usize,

@@ -1,5 +1,7 @@
 // Document 01's gate: the marks of a set of 20 files, wherever these stand, and what is told of one;
 // and the same by other rules over the same files.
+#![tactic(auto)]
+
 ghost use Rattle.std.specs.Prelude.{◌≡◌, length};
 ghost use Rattle.standing.specs.Standing.{standing, start_standing};
 ghost use Rattle.mark_numbers.specs.Marks.{marks_in};

@@ -1,6 +1,8 @@
 // The entries of a set's records, as numbers in a lent workspace. The files that are read for what is
 // judged are read into the front of it, one after the other, and the entries of each go behind those
 // of the files before.
+#![tactic(auto)]
+
 ghost use Rattle.std.specs.Prelude.{◌≡◌, ◌+◌, ◌*◌, ◌/◌, ◌≤◌, length};
 ghost use Rattle.parts.specs.Files.{is_present, bytes_of, new_file};
 ghost use Rattle.rule_shape.specs.Rule.{rule_from};

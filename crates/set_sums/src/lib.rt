@@ -1,4 +1,6 @@
 // What a set adds to a quarter: judged first, and if it is accepted, the sums over its assignments.
+#![tactic(auto)]
+
 ghost use Rattle.std.specs.Prelude.{◌≡◌, ◌≤◌, length, take, drop};
 ghost use Rattle.parts.specs.Files.{bytes_of};
 ghost use Rattle.rule_cells.specs.Cells.{table};

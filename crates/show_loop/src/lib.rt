@@ -1,4 +1,6 @@
 // A loop among the links of a set: its record numbers, in a lent list.
+#![tactic(auto)]
+
 ghost use Rattle.std.specs.Prelude.{◌≡◌, ◌≤◌, length};
 ghost use Rattle.rule_cells.specs.Cells.{table};
 ghost use Rattle.link_loops.specs.Loop.{ShowsRing};
@@ -10,7 +12,7 @@ use link_loops::show_links;
 use table_again::read_again;
 
 // What a call shows: no loop, a loop of so many records at the start of the list, or a refusal by number.
-#[derive(Drop)]
+#[derive(Clone, Copy)]
 pub enum Shown {
     Nothing,
     Ring(usize),

@@ -1,5 +1,7 @@
 // Where the files of a set stand: three numbers a file in a lent list, and the part of one of three
 // lent slices that they say.
+#![tactic(auto)]
+
 ghost use Rattle.std.specs.Prelude.{◌≡◌, cond, ◌+◌, ◌*◌, ◌≤◌, ◌<◌, ◌/◌, length, ltb};
 ghost use Rattle.parts.specs.Files.{bytes_of};
 ghost use Rattle.standing.specs.Standing.{number_of, slice_of, is_there, standing, start_standing, standing_with};

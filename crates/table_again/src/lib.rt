@@ -1,4 +1,6 @@
 // A table of a set read once more, for whoever needs the number of its records beside its cells.
+#![tactic(auto)]
+
 ghost use Rattle.std.specs.Prelude.{◌≡◌, length};
 ghost use Rattle.table_again.specs.Again.{file_read_again};
 

@@ -1,6 +1,8 @@
 // The constants of document 002: the 136 fields of its section 2.2, the 61 enumeration values of its
 // section 2.4, and the text of FileType.txt. A caller takes a copy once and lends it: a constant is
 // stored anew at each use.
+#![tactic(auto)]
+
 ghost use Rattle.std.specs.Prelude.{◌≡◌};
 ghost use Rattle.table_fields.specs.Fields.{file_type};
 ghost use Rattle.table_fields.specs.Flat.{field_rows, field_names, value_places, value_texts};

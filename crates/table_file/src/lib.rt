@@ -1,5 +1,7 @@
 // A file of a set: its own mark, the number of its records, and where each value of each record
 // stands, found in one pass.
+#![tactic(auto)]
+
 ghost use Rattle.std.specs.Prelude.{◌≡◌, true, false, cond, ◌≤◌, ◌<◌, length};
 ghost use Rattle.parts.specs.Files.{new_file};
 ghost use Rattle.table_rows.specs.Rows.{fields_from};
@@ -23,7 +25,7 @@ pub const FIXED: u32 = 2;
 
 // The mark of a file, kind 0 and place 0 where it holds, and how many records it then has. The mark's
 // third number is its companion: the record that a fault of a record's kind stands in.
-#[derive(Drop)]
+#[derive(Clone, Copy)]
 pub struct FileRead {
     pub kind: u32,
     pub place: usize,

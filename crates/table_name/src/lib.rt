@@ -1,5 +1,7 @@
 // What stands around the values of a table: the name of a field, the colon behind it, and what
 // follows in an object or an array.
+#![tactic(auto)]
+
 ghost use Rattle.std.specs.Prelude.{◌≡◌, ◌≤◌, ◌<◌, length, cond, ltb};
 ghost use Rattle.json_chars.specs.Chars.{chars_at};
 ghost use Rattle.json_same.specs.Same.{same_as, same_list};
@@ -17,7 +19,7 @@ use table_rows::{name_end, name_start};
 
 // A field's name: the field's place among those of its table and the place behind the name, or a
 // fault.
-#[derive(Drop)]
+#[derive(Clone, Copy)]
 pub enum NameRead {
     Known { index: usize, end: usize },
     Unknown { kind: u32, place: usize },
@@ -25,7 +27,7 @@ pub enum NameRead {
 
 // What follows in an object or an array: another member at a place, the closing brace or bracket at
 // a place, or neither.
-#[derive(Drop)]
+#[derive(Clone, Copy)]
 pub enum Next {
     More { at: usize },
     Ends { at: usize },

@@ -3,6 +3,8 @@
 // present, length) and the file's bytes; its answer on standard output is five little-endian u64
 // (kind, place, companion, records, n) and the n cells of the records, each a little-endian u32. The
 // program ends where the input does, and at a case that is too long or of no file.
+#![tactic(auto)]
+
 ghost use Rattle.std.specs.Prelude.{◌+◌, ◌*◌, ◌≤◌, length};
 
 use bundle_bytes::{put_word, word_at};
@@ -13,7 +15,7 @@ use table_file::{FIXED, RECORDS, SINGLE, read_file};
 use table_rows::{field_count, first_field, rows_after};
 
 // A file's mark, the number of its records, and the number of its table's fields.
-#[derive(Drop)]
+#[derive(Clone, Copy)]
 struct Answer {
     kind: u64,
     place: u64,
@@ -23,7 +25,7 @@ struct Answer {
 }
 
 // What stands before the n bytes of a case.
-#[derive(Drop)]
+#[derive(Clone, Copy)]
 enum Header {
     Asks {
         file: usize,
@@ -33,7 +35,7 @@ enum Header {
     Nothing,
 }
 
-#[derive(Drop)]
+#[derive(Clone, Copy)]
 enum Next {
     Answered(Answer),
     End,

@@ -1,5 +1,7 @@
 // A record of a table, read once: the places of its values go into cells that the caller lends, two
 // numbers a field, and the answer is the place behind its closing brace or the record's first fault.
+#![tactic(auto)]
+
 ghost use Rattle.std.specs.Prelude.{◌≡◌, true, ◌+◌, ◌*◌, ◌^◌, ◌≤◌, ◌<◌, length, take, drop};
 ghost use Rattle.table_rows.specs.Rows.{fields_from};
 ghost use Rattle.table_name.specs.Name.{name_at};
@@ -43,7 +45,7 @@ fn store_value(s: &[u8], start: usize, ty: u32, cells: &mut [u32], base: usize, 
 
 // A name and its value as read, and the field that most likely stands next: the one behind it in the
 // table's order. Behind a fault nothing is read, and that number says nothing.
-#[derive(Drop)]
+#[derive(Clone, Copy)]
 struct Paired {
     reading: Reading,
     next: usize,

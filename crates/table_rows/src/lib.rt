@@ -1,5 +1,7 @@
 // Readers of lent rows: a table's fields, five numbers each, and enumeration values, two numbers
 // each. They know the form of the rows and no document.
+#![tactic(auto)]
+
 ghost use Rattle.std.specs.Prelude.{◌≡◌, drop};
 ghost use Rattle.json_bytes.specs.Reads.{leading};
 ghost use Rattle.table_rows.specs.Rows.{cell_at, type_at, nullable_at, name_start, name_end, rows_after, tables_in, first_field, field_count, value_name_start, value_end};

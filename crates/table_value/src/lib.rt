@@ -1,5 +1,7 @@
 // A value in a field of a type: where it ends and whether it is null, or the kind and place of its
 // fault.
+#![tactic(auto)]
+
 ghost use Rattle.std.specs.Prelude.{◌≡◌, ◌&&◌, ◌≤◌, ◌<◌, ◌^◌, length, eqb};
 ghost use Rattle.json_bytes.specs.Reads.{literal_at};
 ghost use Rattle.json_text.specs.Run.{plain_end};
@@ -16,7 +18,7 @@ use json_text::{TextRead, TextType, Wrong, plain_end, read_text};
 use table_rows::{BOOLEAN, DATE, DECIMAL, INTEGER, STRING, STRING_ID, TEXT};
 
 // A value read whole, the place behind it with it, or a fault.
-#[derive(Drop)]
+#[derive(Clone, Copy)]
 pub enum ValueRead {
     Held { end: usize },
     Null { end: usize },

@@ -1,10 +1,12 @@
 // Line and column of a place in a text, both from 1, for people who look for it in an editor.
+#![tactic(auto)]
+
 ghost use Rattle.std.specs.Prelude.{◌≡◌, cond, ◌≤◌, ltb};
 ghost use Rattle.text_place.specs.Place.{is_continuation, spot_at};
 
 use json_bytes::is_within;
 
-#[derive(Drop)]
+#[derive(Clone, Copy)]
 pub struct Spot {
     pub line: usize,
     pub column: usize,

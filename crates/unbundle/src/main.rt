@@ -1,5 +1,7 @@
 // Writes the files of a bundle into a folder under their own names, and prints the names that it wrote.
 // It replaces no file: where the folder has one of the 20 already, nothing is written.
+#![tactic(auto)]
+
 use bundle::{FileState, bundle_fault, file_part, file_state};
 use folder::{Found, argument, path_of, read_named, write_opened};
 use gate_lists::Which;

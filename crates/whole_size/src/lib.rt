@@ -1,5 +1,7 @@
 // Signed numbers read for whoever prints them or puts them into bytes: one of a list, and how far one is from
 // zero.
+#![tactic(auto)]
+
 ghost use Rattle.std.specs.Prelude.{◌≡◌, nat_abs};
 ghost use Rattle.exact_sums.specs.Sums.{whole_at};
 

@@ -1,4 +1,6 @@
 // The sentence that a scheduler reads beside a mark: which one, and what stands in its slots.
+#![tactic(auto)]
+
 ghost use Rattle.std.specs.Prelude.{◌≡◌, ◌+◌, ◌-◌, cond, [], get_or, ltb, eqb};
 ghost use Rattle.output.specs.Output.{output_at, put};
 ghost use Rattle.wording.specs.Sentences.{sentences, contract_sentences, sentence_at, of_rule, kind_among, of_kind};
@@ -14,7 +16,7 @@ use parts::part;
 mod words;
 
 // What stands in the slots of a sentence, but for the value.
-#[derive(Drop)]
+#[derive(Clone, Copy)]
 pub struct Slots {
     // the file that the sentence is about
     pub file: usize,
