@@ -27,7 +27,7 @@ pub fn baseline_marks<'a>(
     companions: &mut [usize],
 ) -> bool
     ensures value { result ≡ can_judge baseline (length work.old) (marks_in kinds.old places.old companions.old) }
-    ensures companions_after { marks_in kinds.new places.new companions.new ≡ marks_after baseline scope (standing a.now b.now c.now stand.now) (length work.old) (marks_in kinds.old places.old companions.old) }
+    ensures board_after { marks_in kinds.new places.new companions.new ≡ marks_after baseline scope (standing a.now b.now c.now stand.now) (length work.old) (marks_in kinds.old places.old companions.old) }
     ensures work_after { work.new ≡ work_afterwards baseline scope (standing a.now b.now c.now stand.now) (marks_in kinds.old places.old companions.old) work.old }
 {
     let rules = baseline_rows();

@@ -107,8 +107,8 @@ pub fn answer_lists<'a>(
     companions_b: &mut [usize],
 ) -> Refusals
     ensures value { result ≡ refusals_of (desks_in schedule a.now b.now shared.now (length work.old) (marks_in kinds_a.old places_a.old companions_a.old) (marks_in kinds_b.old places_b.old companions_b.old) whose k (new_file present new.now) room) }
-    ensures companions_a_after { marks_in kinds_a.new places_a.new companions_a.new ≡ (desks_in schedule a.now b.now shared.now (length work.old) (marks_in kinds_a.old places_a.old companions_a.old) (marks_in kinds_b.old places_b.old companions_b.old) whose k (new_file present new.now) room).a.marks }
-    ensures companions_b_after { marks_in kinds_b.new places_b.new companions_b.new ≡ (desks_in schedule a.now b.now shared.now (length work.old) (marks_in kinds_a.old places_a.old companions_a.old) (marks_in kinds_b.old places_b.old companions_b.old) whose k (new_file present new.now) room).b.marks }
+    ensures board_a_after { marks_in kinds_a.new places_a.new companions_a.new ≡ (desks_in schedule a.now b.now shared.now (length work.old) (marks_in kinds_a.old places_a.old companions_a.old) (marks_in kinds_b.old places_b.old companions_b.old) whose k (new_file present new.now) room).a.marks }
+    ensures board_b_after { marks_in kinds_b.new places_b.new companions_b.new ≡ (desks_in schedule a.now b.now shared.now (length work.old) (marks_in kinds_a.old places_a.old companions_a.old) (marks_in kinds_b.old places_b.old companions_b.old) whose k (new_file present new.now) room).b.marks }
     ensures work_after { work.new ≡ desks_left schedule a.now b.now shared.now whose k (new_file present new.now) room result.a result.b work.old }
 {
     let of_a = desk_lists(
@@ -189,8 +189,8 @@ pub fn change_lists<'a>(
     companions_b: &mut [usize],
 ) -> Refusals
     ensures value { result ≡ refusals_of (desks_in schedule a.now b.now shared.now (length work.old) (marks_in kinds_a.old places_a.old companions_a.old) (marks_in kinds_b.old places_b.old companions_b.old) whose k (new_file present new.now) (length out.old)) }
-    ensures companions_a_after { marks_in kinds_a.new places_a.new companions_a.new ≡ (desks_in schedule a.now b.now shared.now (length work.old) (marks_in kinds_a.old places_a.old companions_a.old) (marks_in kinds_b.old places_b.old companions_b.old) whose k (new_file present new.now) (length out.old)).a.marks }
-    ensures companions_b_after { marks_in kinds_b.new places_b.new companions_b.new ≡ (desks_in schedule a.now b.now shared.now (length work.old) (marks_in kinds_a.old places_a.old companions_a.old) (marks_in kinds_b.old places_b.old companions_b.old) whose k (new_file present new.now) (length out.old)).b.marks }
+    ensures board_a_after { marks_in kinds_a.new places_a.new companions_a.new ≡ (desks_in schedule a.now b.now shared.now (length work.old) (marks_in kinds_a.old places_a.old companions_a.old) (marks_in kinds_b.old places_b.old companions_b.old) whose k (new_file present new.now) (length out.old)).a.marks }
+    ensures board_b_after { marks_in kinds_b.new places_b.new companions_b.new ≡ (desks_in schedule a.now b.now shared.now (length work.old) (marks_in kinds_a.old places_a.old companions_a.old) (marks_in kinds_b.old places_b.old companions_b.old) whose k (new_file present new.now) (length out.old)).b.marks }
     ensures out_after { out.new ≡ desks_output_in schedule a.now b.now shared.now (length work.old) (marks_in kinds_a.old places_a.old companions_a.old) (marks_in kinds_b.old places_b.old companions_b.old) whose k (new_file present new.now) out.old }
     ensures work_after { work.new ≡ desks_left schedule a.now b.now shared.now whose k (new_file present new.now) (length out.old) result.a result.b work.old }
 {

@@ -50,7 +50,7 @@ pub fn contract_marks<'a>(
     companions: &mut [usize],
 ) -> bool
     ensures value { result ≡ can_judge contract (length work.old) (marks_in kinds.old places.old companions.old) }
-    ensures companions_after { marks_in kinds.new places.new companions.new ≡ marks_after contract scope (standing a.now b.now c.now stand.now) (length work.old) (marks_in kinds.old places.old companions.old) }
+    ensures board_after { marks_in kinds.new places.new companions.new ≡ marks_after contract scope (standing a.now b.now c.now stand.now) (length work.old) (marks_in kinds.old places.old companions.old) }
     ensures work_after { work.new ≡ work_afterwards contract scope (standing a.now b.now c.now stand.now) (marks_in kinds.old places.old companions.old) work.old }
 {
     let forms = contract_forms();

@@ -84,7 +84,7 @@ pub fn judge_joined_lists<'a>(
     companions: &mut [usize],
 ) -> u32
     ensures value { result ≡ (judged_join_in schedule desk.now shared.now (length work.old) (marks_in kinds.old places.old companions.old)).refusal }
-    ensures companions_after { marks_in kinds.new places.new companions.new ≡ (judged_join_in schedule desk.now shared.now (length work.old) (marks_in kinds.old places.old companions.old)).marks }
+    ensures board_after { marks_in kinds.new places.new companions.new ≡ (judged_join_in schedule desk.now shared.now (length work.old) (marks_in kinds.old places.old companions.old)).marks }
     ensures work_after { work.new ≡ join_left schedule desk.now shared.now result work.old }
 {
     let fault = lent_fault(Which::Schedule, work.len(), kinds, places, companions);
@@ -134,9 +134,9 @@ fn judge_again<'a>(
     places: &mut [usize],
     companions: &mut [usize],
 )
-    requires companions_value { lent_fault schedule (length work.old) (marks_in kinds.old places.old companions.old) ≡ 0 }
+    requires no_lent_fault { lent_fault schedule (length work.old) (marks_in kinds.old places.old companions.old) ≡ 0 }
     requires k_bound { k < 20 }
-    ensures companions_after { marks_in kinds.new places.new companions.new ≡ changed_marks schedule k (changed (joined_set desk.now shared.now) k (new_file present new.now)) (marks_in kinds.old places.old companions.old) }
+    ensures board_after { marks_in kinds.new places.new companions.new ≡ changed_marks schedule k (changed (joined_set desk.now shared.now) k (new_file present new.now)) (marks_in kinds.old places.old companions.old) }
     ensures work_after { work.new ≡ work_judged schedule (Change k) (changed (joined_set desk.now shared.now) k (new_file present new.now)) work.old }
 {
     let mut stand = [0usize; 96];
@@ -181,7 +181,7 @@ pub fn desk_lists<'a>(
     companions: &mut [usize],
 ) -> u32
     ensures value { result ≡ (desk_in schedule desk.now shared.now (sight_of seen k (new_file present new.now) room) (length work.old) (marks_in kinds.old places.old companions.old)).refusal }
-    ensures companions_after { marks_in kinds.new places.new companions.new ≡ (desk_in schedule desk.now shared.now (sight_of seen k (new_file present new.now) room) (length work.old) (marks_in kinds.old places.old companions.old)).marks }
+    ensures board_after { marks_in kinds.new places.new companions.new ≡ (desk_in schedule desk.now shared.now (sight_of seen k (new_file present new.now) room) (length work.old) (marks_in kinds.old places.old companions.old)).marks }
     ensures work_after { work.new ≡ desk_left schedule desk.now shared.now (sight_of seen k (new_file present new.now) room) result work.old }
 {
     let fault = lent_fault(Which::Schedule, work.len(), kinds, places, companions);

@@ -67,7 +67,7 @@ pub extern "C" fn knotsaddle_desk_judge<'a>(
     work: &mut [u32],
 ) -> u32
     ensures value { result ≡ (judged_join_in schedule desk.now shared.now (length work.old) (marks_in kinds.old places.old companions.old)).refusal }
-    ensures companions_after { marks_in kinds.new places.new companions.new ≡ (judged_join_in schedule desk.now shared.now (length work.old) (marks_in kinds.old places.old companions.old)).marks }
+    ensures board_after { marks_in kinds.new places.new companions.new ≡ (judged_join_in schedule desk.now shared.now (length work.old) (marks_in kinds.old places.old companions.old)).marks }
     ensures work_after { work.new ≡ join_left schedule desk.now shared.now result work.old }
 {
     judge_joined_lists(desk, shared, work, kinds, places, companions)
@@ -97,8 +97,8 @@ pub extern "C" fn knotsaddle_desks_try<'a>(
     work: &mut [u32],
 ) -> u32
     ensures value { result ≡ desks_call_fault refusals.old size.old whose present }
-    ensures companions_a_after { marks_in kinds_a.new places_a.new companions_a.new ≡ (desks_called result a.now b.now shared.now (length work.old) (marks_in kinds_a.old places_a.old companions_a.old) (marks_in kinds_b.old places_b.old companions_b.old) whose file present new_bytes.now long_enough).a.marks }
-    ensures companions_b_after { marks_in kinds_b.new places_b.new companions_b.new ≡ (desks_called result a.now b.now shared.now (length work.old) (marks_in kinds_a.old places_a.old companions_a.old) (marks_in kinds_b.old places_b.old companions_b.old) whose file present new_bytes.now long_enough).b.marks }
+    ensures board_a_after { marks_in kinds_a.new places_a.new companions_a.new ≡ (desks_called result a.now b.now shared.now (length work.old) (marks_in kinds_a.old places_a.old companions_a.old) (marks_in kinds_b.old places_b.old companions_b.old) whose file present new_bytes.now long_enough).a.marks }
+    ensures board_b_after { marks_in kinds_b.new places_b.new companions_b.new ≡ (desks_called result a.now b.now shared.now (length work.old) (marks_in kinds_a.old places_a.old companions_a.old) (marks_in kinds_b.old places_b.old companions_b.old) whose file present new_bytes.now long_enough).b.marks }
     ensures refusals_after { refusals.new ≡ refusals_left result (desks_called result a.now b.now shared.now (length work.old) (marks_in kinds_a.old places_a.old companions_a.old) (marks_in kinds_b.old places_b.old companions_b.old) whose file present new_bytes.now long_enough) refusals.old }
     ensures size_after { size.new ≡ size_left result (desks_called result a.now b.now shared.now (length work.old) (marks_in kinds_a.old places_a.old companions_a.old) (marks_in kinds_b.old places_b.old companions_b.old) whose file present new_bytes.now long_enough) size.old }
     ensures work_after { work.new ≡ work_called result a.now b.now shared.now whose file present new_bytes.now long_enough (desks_called result a.now b.now shared.now (length work.old) (marks_in kinds_a.old places_a.old companions_a.old) (marks_in kinds_b.old places_b.old companions_b.old) whose file present new_bytes.now long_enough) work.old }
@@ -151,8 +151,8 @@ pub extern "C" fn knotsaddle_desks_make<'a>(
     work: &mut [u32],
 ) -> u32
     ensures value { result ≡ desks_call_fault refusals.old size.old whose present }
-    ensures companions_a_after { marks_in kinds_a.new places_a.new companions_a.new ≡ (desks_called result a.now b.now shared.now (length work.old) (marks_in kinds_a.old places_a.old companions_a.old) (marks_in kinds_b.old places_b.old companions_b.old) whose file present new_bytes.now (length out.old)).a.marks }
-    ensures companions_b_after { marks_in kinds_b.new places_b.new companions_b.new ≡ (desks_called result a.now b.now shared.now (length work.old) (marks_in kinds_a.old places_a.old companions_a.old) (marks_in kinds_b.old places_b.old companions_b.old) whose file present new_bytes.now (length out.old)).b.marks }
+    ensures board_a_after { marks_in kinds_a.new places_a.new companions_a.new ≡ (desks_called result a.now b.now shared.now (length work.old) (marks_in kinds_a.old places_a.old companions_a.old) (marks_in kinds_b.old places_b.old companions_b.old) whose file present new_bytes.now (length out.old)).a.marks }
+    ensures board_b_after { marks_in kinds_b.new places_b.new companions_b.new ≡ (desks_called result a.now b.now shared.now (length work.old) (marks_in kinds_a.old places_a.old companions_a.old) (marks_in kinds_b.old places_b.old companions_b.old) whose file present new_bytes.now (length out.old)).b.marks }
     ensures refusals_after { refusals.new ≡ refusals_left result (desks_called result a.now b.now shared.now (length work.old) (marks_in kinds_a.old places_a.old companions_a.old) (marks_in kinds_b.old places_b.old companions_b.old) whose file present new_bytes.now (length out.old)) refusals.old }
     ensures size_after { size.new ≡ size_left result (desks_called result a.now b.now shared.now (length work.old) (marks_in kinds_a.old places_a.old companions_a.old) (marks_in kinds_b.old places_b.old companions_b.old) whose file present new_bytes.now (length out.old)) size.old }
     ensures out_after { out.new ≡ desks_output_called result a.now b.now shared.now (length work.old) (marks_in kinds_a.old places_a.old companions_a.old) (marks_in kinds_b.old places_b.old companions_b.old) whose file present new_bytes.now out.old }

@@ -29,7 +29,7 @@ pub extern "C" fn knotsaddle_drawer_judge(
     work: &mut [u32],
 ) -> u32
     ensures value { result ≡ (drawer_judged_in schedule drawer.now (length work.old) (marks_in kinds.old places.old companions.old)).refusal }
-    ensures companions_after { marks_in kinds.new places.new companions.new ≡ (drawer_judged_in schedule drawer.now (length work.old) (marks_in kinds.old places.old companions.old)).marks }
+    ensures board_after { marks_in kinds.new places.new companions.new ≡ (drawer_judged_in schedule drawer.now (length work.old) (marks_in kinds.old places.old companions.old)).marks }
     ensures work_after { work.new ≡ judge_left schedule drawer.now result work.old }
 {
     judge_drawer_lists(drawer, work, kinds, places, companions)
@@ -84,7 +84,7 @@ pub extern "C" fn knotsaddle_drawer_try<'a>(
     work: &mut [u32],
 ) -> u32
     ensures value { result ≡ (change_called drawer.now file present new_bytes.now (length work.old) (marks_in kinds.old places.old companions.old)).refusal }
-    ensures companions_after { marks_in kinds.new places.new companions.new ≡ (change_called drawer.now file present new_bytes.now (length work.old) (marks_in kinds.old places.old companions.old)).marks }
+    ensures board_after { marks_in kinds.new places.new companions.new ≡ (change_called drawer.now file present new_bytes.now (length work.old) (marks_in kinds.old places.old companions.old)).marks }
     ensures work_after { work.new ≡ change_left schedule drawer.now file (file_handed present new_bytes.now) result work.old }
 {
     if 1 < present {
@@ -115,7 +115,7 @@ pub extern "C" fn knotsaddle_drawer_make(
     work: &mut [u32],
 ) -> u32
     ensures value { result ≡ (change_called drawer.old file present new_bytes.now (length work.old) (marks_in kinds.old places.old companions.old)).refusal }
-    ensures companions_after { marks_in kinds.new places.new companions.new ≡ (change_called drawer.old file present new_bytes.now (length work.old) (marks_in kinds.old places.old companions.old)).marks }
+    ensures board_after { marks_in kinds.new places.new companions.new ≡ (change_called drawer.old file present new_bytes.now (length work.old) (marks_in kinds.old places.old companions.old)).marks }
     ensures drawer_after { drawer.new ≡ drawer_called drawer.old file present new_bytes.now (length work.old) (marks_in kinds.old places.old companions.old) }
     ensures work_after { work.new ≡ change_left schedule drawer.old file (file_handed present new_bytes.now) result work.old }
 {

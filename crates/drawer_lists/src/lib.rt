@@ -67,7 +67,7 @@ pub fn judge_drawer_lists(
     companions: &mut [usize],
 ) -> u32
     ensures value { result ≡ (drawer_judged_in schedule d.now (length work.old) (marks_in kinds.old places.old companions.old)).refusal }
-    ensures companions_after { marks_in kinds.new places.new companions.new ≡ (drawer_judged_in schedule d.now (length work.old) (marks_in kinds.old places.old companions.old)).marks }
+    ensures board_after { marks_in kinds.new places.new companions.new ≡ (drawer_judged_in schedule d.now (length work.old) (marks_in kinds.old places.old companions.old)).marks }
     ensures work_after { work.new ≡ judge_left schedule d.now result work.old }
 {
     let fault = lent_fault(Which::Schedule, work.len(), kinds, places, companions);
@@ -107,9 +107,9 @@ fn judge_again<'a>(
     places: &mut [usize],
     companions: &mut [usize],
 )
-    requires companions_value { lent_fault schedule (length work.old) (marks_in kinds.old places.old companions.old) ≡ 0 }
+    requires no_lent_fault { lent_fault schedule (length work.old) (marks_in kinds.old places.old companions.old) ≡ 0 }
     requires k_bound { k < 20 }
-    ensures companions_after { marks_in kinds.new places.new companions.new ≡ changed_marks schedule k (files_after d.now k (new_file present new.now)) (marks_in kinds.old places.old companions.old) }
+    ensures board_after { marks_in kinds.new places.new companions.new ≡ changed_marks schedule k (files_after d.now k (new_file present new.now)) (marks_in kinds.old places.old companions.old) }
     ensures work_after { work.new ≡ work_judged schedule (Change k) (files_after d.now k (new_file present new.now)) work.old }
 {
     let mut stand = [0usize; 96];
@@ -140,7 +140,7 @@ pub fn try_drawer_lists<'a>(
     companions: &mut [usize],
 ) -> u32
     ensures value { result ≡ (drawer_changed_in schedule d.now k (new_file present new.now) (length work.old) (marks_in kinds.old places.old companions.old)).refusal }
-    ensures companions_after { marks_in kinds.new places.new companions.new ≡ (drawer_changed_in schedule d.now k (new_file present new.now) (length work.old) (marks_in kinds.old places.old companions.old)).marks }
+    ensures board_after { marks_in kinds.new places.new companions.new ≡ (drawer_changed_in schedule d.now k (new_file present new.now) (length work.old) (marks_in kinds.old places.old companions.old)).marks }
     ensures work_after { work.new ≡ change_left schedule d.now k (new_file present new.now) result work.old }
 {
     let fault = lent_fault(Which::Schedule, work.len(), kinds, places, companions);
@@ -167,7 +167,7 @@ pub fn make_drawer_lists(
     companions: &mut [usize],
 ) -> u32
     ensures value { result ≡ (drawer_changed_in schedule d.old k (new_file present new.now) (length work.old) (marks_in kinds.old places.old companions.old)).refusal }
-    ensures companions_after { marks_in kinds.new places.new companions.new ≡ (drawer_changed_in schedule d.old k (new_file present new.now) (length work.old) (marks_in kinds.old places.old companions.old)).marks }
+    ensures board_after { marks_in kinds.new places.new companions.new ≡ (drawer_changed_in schedule d.old k (new_file present new.now) (length work.old) (marks_in kinds.old places.old companions.old)).marks }
     ensures d_after { d.new ≡ drawer_made_in schedule d.old k (new_file present new.now) (length work.old) (marks_in kinds.old places.old companions.old) }
     ensures work_after { work.new ≡ change_left schedule d.old k (new_file present new.now) result work.old }
 {

@@ -102,7 +102,7 @@ pub extern "C" fn knotsaddle_judge(
     work: &mut [u32],
 ) -> u32
     ensures value { result ≡ (judge_called gate bundle.now (length work.old) (marks_in kinds.old places.old companions.old)).refusal }
-    ensures companions_after { marks_in kinds.new places.new companions.new ≡ (judge_called gate bundle.now (length work.old) (marks_in kinds.old places.old companions.old)).marks }
+    ensures board_after { marks_in kinds.new places.new companions.new ≡ (judge_called gate bundle.now (length work.old) (marks_in kinds.old places.old companions.old)).marks }
     ensures work_after { work.new ≡ judge_left (gate_numbered gate) bundle.now result work.old }
 {
     if 2 < gate {
@@ -128,7 +128,7 @@ pub extern "C" fn knotsaddle_try<'a>(
     work: &mut [u32],
 ) -> u32
     ensures value { result ≡ (try_called gate bundle.now file present new_bytes.now size.old (length work.old) (marks_in kinds.old places.old companions.old)).refusal }
-    ensures companions_after { marks_in kinds.new places.new companions.new ≡ (try_called gate bundle.now file present new_bytes.now size.old (length work.old) (marks_in kinds.old places.old companions.old)).marks }
+    ensures board_after { marks_in kinds.new places.new companions.new ≡ (try_called gate bundle.now file present new_bytes.now size.old (length work.old) (marks_in kinds.old places.old companions.old)).marks }
     ensures size_after { size.new ≡ size_after (try_called gate bundle.now file present new_bytes.now size.old (length work.old) (marks_in kinds.old places.old companions.old)) size.old }
     ensures work_after { work.new ≡ change_left (gate_numbered gate) bundle.now file (file_handed present new_bytes.now) result work.old }
 {
@@ -167,7 +167,7 @@ pub extern "C" fn knotsaddle_make<'a>(
     work: &mut [u32],
 ) -> u32
     ensures value { result ≡ (make_called gate bundle.now file present new_bytes.now (length out.old) size.old (length work.old) (marks_in kinds.old places.old companions.old)).refusal }
-    ensures companions_after { marks_in kinds.new places.new companions.new ≡ (make_called gate bundle.now file present new_bytes.now (length out.old) size.old (length work.old) (marks_in kinds.old places.old companions.old)).marks }
+    ensures board_after { marks_in kinds.new places.new companions.new ≡ (make_called gate bundle.now file present new_bytes.now (length out.old) size.old (length work.old) (marks_in kinds.old places.old companions.old)).marks }
     ensures out_after { out.new ≡ output_called gate bundle.now file present new_bytes.now out.old size.old (length work.old) (marks_in kinds.old places.old companions.old) }
     ensures size_after { size.new ≡ size_after (make_called gate bundle.now file present new_bytes.now (length out.old) size.old (length work.old) (marks_in kinds.old places.old companions.old)) size.old }
     ensures work_after { work.new ≡ change_left (gate_numbered gate) bundle.now file (file_handed present new_bytes.now) result work.old }
@@ -220,7 +220,7 @@ pub extern "C" fn knotsaddle_fresh(
     companions: &mut [usize],
 ) -> u32
     ensures value { result ≡ board_fault gate (marks_in kinds.old places.old companions.old) }
-    ensures companions_after { marks_in kinds.new places.new companions.new ≡ fresh_called gate (marks_in kinds.old places.old companions.old) }
+    ensures board_after { marks_in kinds.new places.new companions.new ≡ fresh_called gate (marks_in kinds.old places.old companions.old) }
 {
     let fault = board_fault(gate, kinds, places, companions);
     if fault != 0 {

@@ -93,7 +93,7 @@ pub fn judge_flat(
     room: usize,
 ) -> Listed
     ensures value { result ≡ listed_of (set_entries schedule Full (file_at bundle.now)) (judge_listed schedule bundle.now (length work.old) room (marks_in kinds.old places.old companions.old)) }
-    ensures companions_after { marks_in kinds.new places.new companions.new ≡ (judge_listed schedule bundle.now (length work.old) room (marks_in kinds.old places.old companions.old)).marks }
+    ensures board_after { marks_in kinds.new places.new companions.new ≡ (judge_listed schedule bundle.now (length work.old) room (marks_in kinds.old places.old companions.old)).marks }
     ensures work_after { work.new ≡ list_left schedule Full (file_at bundle.now) result.refusal work.old }
 {
     let fault = list_fault(work.len(), kinds, places, companions);
@@ -133,7 +133,7 @@ pub fn try_flat<'a>(
     room: usize,
 ) -> Listed
     ensures value { result ≡ listed_of (set_entries schedule (Change k) (files_after bundle.now k (new_file present new.now))) (try_listed schedule bundle.now k (new_file present new.now) (length work.old) room (marks_in kinds.old places.old companions.old)) }
-    ensures companions_after { marks_in kinds.new places.new companions.new ≡ (try_listed schedule bundle.now k (new_file present new.now) (length work.old) room (marks_in kinds.old places.old companions.old)).marks }
+    ensures board_after { marks_in kinds.new places.new companions.new ≡ (try_listed schedule bundle.now k (new_file present new.now) (length work.old) room (marks_in kinds.old places.old companions.old)).marks }
     ensures work_after { work.new ≡ list_left schedule (Change k) (files_after bundle.now k (new_file present new.now)) result.refusal work.old }
 {
     let fault = list_fault(work.len(), kinds, places, companions);
@@ -199,7 +199,7 @@ pub fn make_flat<'a>(
     room: usize,
 ) -> Listed
     ensures value { result ≡ listed_of (set_entries schedule (Change k) (files_after bundle.now k (new_file present new.now))) (make_listed schedule bundle.now k (new_file present new.now) (length out.old) (length work.old) room (marks_in kinds.old places.old companions.old)) }
-    ensures companions_after { marks_in kinds.new places.new companions.new ≡ (make_listed schedule bundle.now k (new_file present new.now) (length out.old) (length work.old) room (marks_in kinds.old places.old companions.old)).marks }
+    ensures board_after { marks_in kinds.new places.new companions.new ≡ (make_listed schedule bundle.now k (new_file present new.now) (length out.old) (length work.old) room (marks_in kinds.old places.old companions.old)).marks }
     ensures out_after { out.new ≡ output_after schedule result.refusal (files_after bundle.now k (new_file present new.now)) out.old }
     ensures work_after { work.new ≡ list_left schedule (Change k) (files_after bundle.now k (new_file present new.now)) result.refusal work.old }
 {

@@ -121,7 +121,7 @@ fn judge_standing<'a>(
     companions: &mut [usize],
 ) -> bool
     ensures value { result ≡ can_judge (gate_called which) (length work.old) (marks_in kinds.old places.old companions.old) }
-    ensures companions_after { marks_in kinds.new places.new companions.new ≡ marks_after (gate_called which) scope (standing a.now b.now c.now stand.now) (length work.old) (marks_in kinds.old places.old companions.old) }
+    ensures board_after { marks_in kinds.new places.new companions.new ≡ marks_after (gate_called which) scope (standing a.now b.now c.now stand.now) (length work.old) (marks_in kinds.old places.old companions.old) }
     ensures work_after { work.new ≡ work_afterwards (gate_called which) scope (standing a.now b.now c.now stand.now) (marks_in kinds.old places.old companions.old) work.old }
 {
     match which {
@@ -151,7 +151,7 @@ pub fn judge_lists(
     companions: &mut [usize],
 ) -> Made
     ensures value { result ≡ made_of (judged_in (gate_called which) bundle.now (length work.old) (marks_in kinds.old places.old companions.old)) }
-    ensures companions_after { marks_in kinds.new places.new companions.new ≡ (judged_in (gate_called which) bundle.now (length work.old) (marks_in kinds.old places.old companions.old)).marks }
+    ensures board_after { marks_in kinds.new places.new companions.new ≡ (judged_in (gate_called which) bundle.now (length work.old) (marks_in kinds.old places.old companions.old)).marks }
     ensures work_after { work.new ≡ judge_left (gate_called which) bundle.now result.refusal work.old }
 {
     let fault = lent_fault(which, work.len(), kinds, places, companions);
@@ -201,10 +201,10 @@ fn judge_change<'a>(
     places: &mut [usize],
     companions: &mut [usize],
 ) -> Made
-    requires companions_value { lent_fault (gate_called which) (length work.old) (marks_in kinds.old places.old companions.old) ≡ 0 }
+    requires no_lent_fault { lent_fault (gate_called which) (length work.old) (marks_in kinds.old places.old companions.old) ≡ 0 }
     requires k_bound { (made.refusal ≡ 0) → (k < (gate_called which).files) }
     ensures value { result ≡ made }
-    ensures companions_after { marks_in kinds.new places.new companions.new ≡ cond (eqb made.refusal 0) (changed_marks (gate_called which) k (files_after bundle.now k (new_file present new.now)) (marks_in kinds.old places.old companions.old)) (marks_in kinds.old places.old companions.old) }
+    ensures board_after { marks_in kinds.new places.new companions.new ≡ cond (eqb made.refusal 0) (changed_marks (gate_called which) k (files_after bundle.now k (new_file present new.now)) (marks_in kinds.old places.old companions.old)) (marks_in kinds.old places.old companions.old) }
     ensures work_after { work.new ≡ change_left (gate_called which) bundle.now k (new_file present new.now) made.refusal work.old }
 {
     if made.refusal != 0 {
@@ -251,7 +251,7 @@ pub fn try_lists<'a>(
     companions: &mut [usize],
 ) -> Made
     ensures value { result ≡ made_of (tried_in (gate_called which) bundle.now k (new_file present new.now) (length work.old) (marks_in kinds.old places.old companions.old)) }
-    ensures companions_after { marks_in kinds.new places.new companions.new ≡ (tried_in (gate_called which) bundle.now k (new_file present new.now) (length work.old) (marks_in kinds.old places.old companions.old)).marks }
+    ensures board_after { marks_in kinds.new places.new companions.new ≡ (tried_in (gate_called which) bundle.now k (new_file present new.now) (length work.old) (marks_in kinds.old places.old companions.old)).marks }
     ensures work_after { work.new ≡ change_left (gate_called which) bundle.now k (new_file present new.now) result.refusal work.old }
 {
     let fault = lent_fault(which, work.len(), kinds, places, companions);
@@ -281,7 +281,7 @@ pub fn make_lists<'a>(
     companions: &mut [usize],
 ) -> Made
     ensures value { result ≡ made_of (made_in (gate_called which) bundle.now k (new_file present new.now) (length out.old) (length work.old) (marks_in kinds.old places.old companions.old)) }
-    ensures companions_after { marks_in kinds.new places.new companions.new ≡ (made_in (gate_called which) bundle.now k (new_file present new.now) (length out.old) (length work.old) (marks_in kinds.old places.old companions.old)).marks }
+    ensures board_after { marks_in kinds.new places.new companions.new ≡ (made_in (gate_called which) bundle.now k (new_file present new.now) (length out.old) (length work.old) (marks_in kinds.old places.old companions.old)).marks }
     ensures out_after { out.new ≡ output_in (gate_called which) bundle.now k (new_file present new.now) (length work.old) (marks_in kinds.old places.old companions.old) out.old }
     ensures work_after { work.new ≡ change_left (gate_called which) bundle.now k (new_file present new.now) result.refusal work.old }
 {

@@ -194,7 +194,7 @@ fn read_one<'a>(
 )
     requires { (from ≤ to) × (to ≤ length work.old) }
     ensures work_after { work.new ≡ written work.old from (file_of (expected_in forms.now fields.now names.now fixed.now k) (standing a.now b.now c.now stand.now k) (start_cells cleared (take (to - from) (drop from work.old)))).cells }
-    ensures companions_after { marks_in kinds.new places.new companions.new ≡ with_mark (marks_in kinds.old places.old companions.old) k (mark_read (file_of (expected_in forms.now fields.now names.now fixed.now k) (standing a.now b.now c.now stand.now k) (start_cells cleared (take (to - from) (drop from work.old)))).read) }
+    ensures board_after { marks_in kinds.new places.new companions.new ≡ with_mark (marks_in kinds.old places.old companions.old) k (mark_read (file_of (expected_in forms.now fields.now names.now fixed.now k) (standing a.now b.now c.now stand.now k) (start_cells cleared (take (to - from) (drop from work.old)))).read) }
     ensures records_after { records.new ≡ set records.old k (file_of (expected_in forms.now fields.now names.now fixed.now k) (standing a.now b.now c.now stand.now k) (start_cells cleared (take (to - from) (drop from work.old)))).read.records }
 {
     let there = is_there(stand, k);
@@ -318,7 +318,7 @@ fn read_needed<'a>(
     companions: &mut [usize],
     records: &mut [usize],
 )
-    requires forms_len_bound { (length forms.now / 2 ≤ 32) × (room_start (expected_in forms.now fields.now names.now fixed.now) (length forms.now / 2) ≤ length work.old) × (length starts.now ≡ 33) × (have_length 32 (marks_in kinds.old places.old companions.old) ≡ true) × (length records.old ≡ 32) }
+    requires enough_room { (length forms.now / 2 ≤ 32) × (room_start (expected_in forms.now fields.now names.now fixed.now) (length forms.now / 2) ≤ length work.old) × (length starts.now ≡ 33) × (have_length 32 (marks_in kinds.old places.old companions.old) ≡ true) × (length records.old ≡ 32) }
     requires starts { Starts (room_start (expected_in forms.now fields.now names.now fixed.now)) (length forms.now / 2) starts.now }
     ensures read_to { ReadTo (length forms.now / 2) (expected_in forms.now fields.now names.now fixed.now) (needed (length forms.now / 2) (length rules.now / 9) (rule_from rules.now) scope) (standing a.now b.now c.now stand.now) work.new (marks_in kinds.new places.new companions.new) records.new }
     ensures work_after { work.new ≡ work_read (is_cleared scope) (expected_in forms.now fields.now names.now fixed.now) (needed (length forms.now / 2) (length rules.now / 9) (rule_from rules.now) scope) (standing a.now b.now c.now stand.now) (length forms.now / 2) work.old }
@@ -427,9 +427,9 @@ fn judge_marks<'a>(
     places: &mut [usize],
     companions: &mut [usize],
 )
-    requires forms_len_bound { (length forms.now / 2 ≤ 32) × (room_start (expected_in forms.now fields.now names.now fixed.now) (length forms.now / 2) ≤ length work.old) × (length starts.now ≡ 33) × (have_length (length forms.now / 2 + length rules.now / 9) (marks_in kinds.old places.old companions.old) ≡ true) }
+    requires enough_room { (length forms.now / 2 ≤ 32) × (room_start (expected_in forms.now fields.now names.now fixed.now) (length forms.now / 2) ≤ length work.old) × (length starts.now ≡ 33) × (have_length (length forms.now / 2 + length rules.now / 9) (marks_in kinds.old places.old companions.old) ≡ true) }
     requires starts { Starts (room_start (expected_in forms.now fields.now names.now fixed.now)) (length forms.now / 2) starts.now }
-    ensures companions_after { marks_in kinds.new places.new companions.new ≡ new_marks (gate_from forms.now fields.now names.now fixed.now rules.now values.now texts.now) scope (standing a.now b.now c.now stand.now) (marks_in kinds.old places.old companions.old) }
+    ensures board_after { marks_in kinds.new places.new companions.new ≡ new_marks (gate_from forms.now fields.now names.now fixed.now rules.now values.now texts.now) scope (standing a.now b.now c.now stand.now) (marks_in kinds.old places.old companions.old) }
     ensures work_after { work.new ≡ work_judged (gate_from forms.now fields.now names.now fixed.now rules.now values.now texts.now) scope (standing a.now b.now c.now stand.now) work.old }
 {
     let mut own_kinds = [0u32; 32];
@@ -499,7 +499,7 @@ pub fn judge_files<'a>(
     companions: &mut [usize],
 ) -> bool
     ensures value { result ≡ can_judge (gate_from forms.now fields.now names.now fixed.now rules.now values.now texts.now) (length work.old) (marks_in kinds.old places.old companions.old) }
-    ensures companions_after { marks_in kinds.new places.new companions.new ≡ marks_after (gate_from forms.now fields.now names.now fixed.now rules.now values.now texts.now) scope (standing a.now b.now c.now stand.now) (length work.old) (marks_in kinds.old places.old companions.old) }
+    ensures board_after { marks_in kinds.new places.new companions.new ≡ marks_after (gate_from forms.now fields.now names.now fixed.now rules.now values.now texts.now) scope (standing a.now b.now c.now stand.now) (length work.old) (marks_in kinds.old places.old companions.old) }
     ensures work_after { work.new ≡ work_afterwards (gate_from forms.now fields.now names.now fixed.now rules.now values.now texts.now) scope (standing a.now b.now c.now stand.now) (marks_in kinds.old places.old companions.old) work.old }
 {
     let n = forms.len() / 2;

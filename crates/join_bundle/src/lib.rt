@@ -42,9 +42,9 @@ fn put_all<'a>(
     second: &mut [u8],
     out: &mut [u8],
 )
-    requires shared_value { join_fault 20 desk.now shared.now ≡ 0 }
-    requires shared_bound { (bundle_length 20 (joined_set desk.now shared.now) ≤ 1048576) × (bundle_length 20 (joined_set desk.now shared.now) ≤ length out.old) }
-    requires first_len { (length first.old ≡ 1048576) × (length second.old ≡ 1048576) }
+    requires no_join_fault { join_fault 20 desk.now shared.now ≡ 0 }
+    requires joined_fits { (bundle_length 20 (joined_set desk.now shared.now) ≤ 1048576) × (bundle_length 20 (joined_set desk.now shared.now) ≤ length out.old) }
+    requires buffers_len { (length first.old ≡ 1048576) × (length second.old ≡ 1048576) }
     ensures { out.new ≡ output_of 20 (joined_set desk.now shared.now) out.old }
 {
     let six = put_shared(desk, shared, 6, first);
@@ -54,8 +54,8 @@ fn put_all<'a>(
 
 // The same with buffers of its own.
 fn put_with_memory<'a>(desk: &'a [u8], shared: &'a [u8], out: &mut [u8])
-    requires shared_value { join_fault 20 desk.now shared.now ≡ 0 }
-    requires shared_bound { (bundle_length 20 (joined_set desk.now shared.now) ≤ 1048576) × (bundle_length 20 (joined_set desk.now shared.now) ≤ length out.old) }
+    requires no_join_fault { join_fault 20 desk.now shared.now ≡ 0 }
+    requires joined_fits { (bundle_length 20 (joined_set desk.now shared.now) ≤ 1048576) × (bundle_length 20 (joined_set desk.now shared.now) ≤ length out.old) }
     ensures { out.new ≡ output_of 20 (joined_set desk.now shared.now) out.old }
 {
     let mut first = [0u8; 1048576];

@@ -31,7 +31,7 @@ pub extern "C" fn knotsaddle_listed_judge(
     work: &mut [u32],
 ) -> u32
     ensures value { result ≡ (judge_listed schedule bundle.now (length work.old) (places_in list.old) (marks_in kinds.old places.old companions.old)).refusal }
-    ensures companions_after { marks_in kinds.new places.new companions.new ≡ (judge_listed schedule bundle.now (length work.old) (places_in list.old) (marks_in kinds.old places.old companions.old)).marks }
+    ensures board_after { marks_in kinds.new places.new companions.new ≡ (judge_listed schedule bundle.now (length work.old) (places_in list.old) (marks_in kinds.old places.old companions.old)).marks }
     ensures list_after { list.new ≡ numbers_after result (set_entries schedule Full (file_at bundle.now)) list.old }
     ensures entries_after { entries.new ≡ (listed_of (set_entries schedule Full (file_at bundle.now)) (judge_listed schedule bundle.now (length work.old) (places_in list.old) (marks_in kinds.old places.old companions.old))).entries }
     ensures work_after { work.new ≡ list_left schedule Full (file_at bundle.now) result work.old }
@@ -59,7 +59,7 @@ pub extern "C" fn knotsaddle_listed_try<'a>(
     work: &mut [u32],
 ) -> u32
     ensures value { result ≡ (try_list_called bundle.now file present new_bytes.now (length work.old) (places_in list.old) (marks_in kinds.old places.old companions.old)).refusal }
-    ensures companions_after { marks_in kinds.new places.new companions.new ≡ (try_list_called bundle.now file present new_bytes.now (length work.old) (places_in list.old) (marks_in kinds.old places.old companions.old)).marks }
+    ensures board_after { marks_in kinds.new places.new companions.new ≡ (try_list_called bundle.now file present new_bytes.now (length work.old) (places_in list.old) (marks_in kinds.old places.old companions.old)).marks }
     ensures list_after { list.new ≡ numbers_after result (set_entries schedule (Change file) (files_after bundle.now file (file_handed present new_bytes.now))) list.old }
     ensures entries_after { entries.new ≡ (listed_of (set_entries schedule (Change file) (files_after bundle.now file (file_handed present new_bytes.now))) (try_list_called bundle.now file present new_bytes.now (length work.old) (places_in list.old) (marks_in kinds.old places.old companions.old))).entries }
     ensures size_after { size.new ≡ (try_list_called bundle.now file present new_bytes.now (length work.old) (places_in list.old) (marks_in kinds.old places.old companions.old)).length }
@@ -104,7 +104,7 @@ pub extern "C" fn knotsaddle_listed_make<'a>(
     work: &mut [u32],
 ) -> u32
     ensures value { result ≡ (make_list_called bundle.now file present new_bytes.now (length out.old) (length work.old) (places_in list.old) (marks_in kinds.old places.old companions.old)).refusal }
-    ensures companions_after { marks_in kinds.new places.new companions.new ≡ (make_list_called bundle.now file present new_bytes.now (length out.old) (length work.old) (places_in list.old) (marks_in kinds.old places.old companions.old)).marks }
+    ensures board_after { marks_in kinds.new places.new companions.new ≡ (make_list_called bundle.now file present new_bytes.now (length out.old) (length work.old) (places_in list.old) (marks_in kinds.old places.old companions.old)).marks }
     ensures out_after { out.new ≡ output_after schedule result (files_after bundle.now file (file_handed present new_bytes.now)) out.old }
     ensures list_after { list.new ≡ numbers_after result (set_entries schedule (Change file) (files_after bundle.now file (file_handed present new_bytes.now))) list.old }
     ensures entries_after { entries.new ≡ (listed_of (set_entries schedule (Change file) (files_after bundle.now file (file_handed present new_bytes.now))) (make_list_called bundle.now file present new_bytes.now (length out.old) (length work.old) (places_in list.old) (marks_in kinds.old places.old companions.old))).entries }
@@ -142,7 +142,7 @@ pub extern "C" fn knotsaddle_plain_judge(
     companions: &mut [usize; 81],
 ) -> u32
     ensures value { result ≡ (judgement schedule bundle.now).refusal }
-    ensures companions_after { marks_in kinds.new places.new companions.new ≡ (judgement schedule bundle.now).marks }
+    ensures board_after { marks_in kinds.new places.new companions.new ≡ (judgement schedule bundle.now).marks }
 {
     let verdict = judge_plain(bundle);
     let board = verdict.board;

@@ -57,7 +57,7 @@ pub fn judge_numbers(
     list: &mut [u32],
 ) -> Listed
     ensures value { result ≡ listed_of (set_entries schedule Full (file_at bundle.now)) (judge_listed schedule bundle.now (length work.old) (places_in list.old) (marks_in kinds.old places.old companions.old)) }
-    ensures companions_after { marks_in kinds.new places.new companions.new ≡ (judge_listed schedule bundle.now (length work.old) (places_in list.old) (marks_in kinds.old places.old companions.old)).marks }
+    ensures board_after { marks_in kinds.new places.new companions.new ≡ (judge_listed schedule bundle.now (length work.old) (places_in list.old) (marks_in kinds.old places.old companions.old)).marks }
     ensures list_after { list.new ≡ numbers_after result.refusal (set_entries schedule Full (file_at bundle.now)) list.old }
     ensures work_after { work.new ≡ list_left schedule Full (file_at bundle.now) result.refusal work.old }
 {
@@ -81,7 +81,7 @@ pub fn try_numbers<'a>(
     list: &mut [u32],
 ) -> Listed
     ensures value { result ≡ listed_of (set_entries schedule (Change k) (files_after bundle.now k (new_file present new.now))) (try_listed schedule bundle.now k (new_file present new.now) (length work.old) (places_in list.old) (marks_in kinds.old places.old companions.old)) }
-    ensures companions_after { marks_in kinds.new places.new companions.new ≡ (try_listed schedule bundle.now k (new_file present new.now) (length work.old) (places_in list.old) (marks_in kinds.old places.old companions.old)).marks }
+    ensures board_after { marks_in kinds.new places.new companions.new ≡ (try_listed schedule bundle.now k (new_file present new.now) (length work.old) (places_in list.old) (marks_in kinds.old places.old companions.old)).marks }
     ensures list_after { list.new ≡ numbers_after result.refusal (set_entries schedule (Change k) (files_after bundle.now k (new_file present new.now))) list.old }
     ensures work_after { work.new ≡ list_left schedule (Change k) (files_after bundle.now k (new_file present new.now)) result.refusal work.old }
 {
@@ -115,7 +115,7 @@ pub fn make_numbers<'a>(
     list: &mut [u32],
 ) -> Listed
     ensures value { result ≡ listed_of (set_entries schedule (Change k) (files_after bundle.now k (new_file present new.now))) (make_listed schedule bundle.now k (new_file present new.now) (length out.old) (length work.old) (places_in list.old) (marks_in kinds.old places.old companions.old)) }
-    ensures companions_after { marks_in kinds.new places.new companions.new ≡ (make_listed schedule bundle.now k (new_file present new.now) (length out.old) (length work.old) (places_in list.old) (marks_in kinds.old places.old companions.old)).marks }
+    ensures board_after { marks_in kinds.new places.new companions.new ≡ (make_listed schedule bundle.now k (new_file present new.now) (length out.old) (length work.old) (places_in list.old) (marks_in kinds.old places.old companions.old)).marks }
     ensures out_after { out.new ≡ output_after schedule result.refusal (files_after bundle.now k (new_file present new.now)) out.old }
     ensures list_after { list.new ≡ numbers_after result.refusal (set_entries schedule (Change k) (files_after bundle.now k (new_file present new.now))) list.old }
     ensures work_after { work.new ≡ list_left schedule (Change k) (files_after bundle.now k (new_file present new.now)) result.refusal work.old }

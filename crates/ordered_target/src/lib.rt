@@ -509,8 +509,8 @@ fn find_record(
     ordered: bool,
 ) -> Near
     requires { ordered ≡ true → (sums.now ≡ sums_of (table u.now u_cells.now u_width 0) t.m u_records) × (order.now ≡ in_key_order (table u.now u_cells.now u_width 0) (key_of (one_text t.m)) u_records) }
-    ensures r_value { result.found ≡ true → breaks_target (table s.now cells.now width 0) t.k t.when (table u.now u_cells.now u_width u_records) t.m places.now texts.now r ≡ false }
-    ensures r_value_2 { result.found ≡ false → ordered ≡ true → breaks_target (table s.now cells.now width 0) t.k t.when (table u.now u_cells.now u_width u_records) t.m places.now texts.now r ≡ true }
+    ensures found_holds { result.found ≡ true → breaks_target (table s.now cells.now width 0) t.k t.when (table u.now u_cells.now u_width u_records) t.m places.now texts.now r ≡ false }
+    ensures not_found_breaks { result.found ≡ false → ordered ≡ true → breaks_target (table s.now cells.now width 0) t.k t.when (table u.now u_cells.now u_width u_records) t.m places.now texts.now r ≡ true }
 {
     if !is_given(cells, width, r, t.k) {
         return Near {
@@ -565,8 +565,8 @@ fn first_unfound(
     ordered: bool,
 ) -> usize
     requires { ordered ≡ true → (sums.now ≡ sums_of (table u.now u_cells.now u_width 0) t.m u_records) × (order.now ≡ in_key_order (table u.now u_cells.now u_width 0) (key_of (one_text t.m)) u_records) }
-    ensures from_value { first_from (breaks_target (table s.now cells.now width 0) t.k t.when (table u.now u_cells.now u_width u_records) t.m places.now texts.now) (records - from) from ≡ first_from (breaks_target (table s.now cells.now width 0) t.k t.when (table u.now u_cells.now u_width u_records) t.m places.now texts.now) (records - result) result }
-    ensures result_value { ordered ≡ true → result < records → breaks_target (table s.now cells.now width 0) t.k t.when (table u.now u_cells.now u_width u_records) t.m places.now texts.now result ≡ true }
+    ensures first_kept { first_from (breaks_target (table s.now cells.now width 0) t.k t.when (table u.now u_cells.now u_width u_records) t.m places.now texts.now) (records - from) from ≡ first_from (breaks_target (table s.now cells.now width 0) t.k t.when (table u.now u_cells.now u_width u_records) t.m places.now texts.now) (records - result) result }
+    ensures result_breaks { ordered ≡ true → result < records → breaks_target (table s.now cells.now width 0) t.k t.when (table u.now u_cells.now u_width u_records) t.m places.now texts.now result ≡ true }
 {
     let mut r = from;
     let mut near = 0;

@@ -160,8 +160,8 @@ fn refused(refusal: u32, q: Quarter) -> Taken
 
 // The state with what a set adds, and the grand totals.
 fn with_sums(q: Quarter, found: Sums) -> Taken
-    requires q_value { is_refused q ≡ false }
-    requires by_index { (i : ℕ) → i < 24 → nat_abs (whole_at found.sums i) ≤ 4096000000000000 }
+    requires not_refused { is_refused q ≡ false }
+    requires sums_bounded { (i : ℕ) → i < 24 → nat_abs (whole_at found.sums i) ≤ 4096000000000000 }
     ensures { result ≡ accepted_as (state_with q found) }
 {
     let before = q.totals;

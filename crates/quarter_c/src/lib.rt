@@ -20,7 +20,7 @@ pub extern "C" fn knotsaddle_quarter_take(
     work: &mut [u32],
 ) -> u32
     ensures value { result ≡ (taken_in (handed totals.old sets.old left.old) bundle.now (length work.old)).refusal }
-    ensures left_after { handed totals.new sets.new left.new ≡ (taken_in (handed totals.old sets.old left.old) bundle.now (length work.old)).quarter }
+    ensures quarter_after { handed totals.new sets.new left.new ≡ (taken_in (handed totals.old sets.old left.old) bundle.now (length work.old)).quarter }
     ensures grand_after { grand.new ≡ (taken_in (handed totals.old sets.old left.old) bundle.now (length work.old)).grand }
     ensures work_after { work.new ≡ taken_left (handed totals.old sets.old left.old) bundle.now work.old }
 {

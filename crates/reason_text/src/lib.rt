@@ -319,7 +319,7 @@ fn put_groups(
     work: &mut [u32],
     keepers: &mut [usize],
 ) -> usize
-    requires which_in_bounds { workspace_of (gate_called which) ≤ length work.old }
+    requires enough_workspace { workspace_of (gate_called which) ≤ length work.old }
     requires keepers_len { length keepers.old ≡ length kinds.now }
     ensures { output_at out.new result ≡ put (output_at out.old at) (cond grouped (kept_lines which (keepers_of (gate_called which) bundle.now (marks_in kinds.now places.now companions.now)) (gate_called which).files) []) }
 {
@@ -342,7 +342,7 @@ fn put_marks(
     work: &mut [u32],
     keepers: &mut [usize],
 ) -> usize
-    requires which_in_bounds { workspace_of (gate_called which) ≤ length work.old }
+    requires enough_workspace { workspace_of (gate_called which) ≤ length work.old }
     requires keepers_len { length keepers.old ≡ length kinds.now }
     ensures { output_at out.new result ≡ put (output_at out.old 0) (marks_text which grouped bundle.now (marks_in kinds.now places.now companions.now)) }
 {
@@ -369,8 +369,8 @@ fn put_answer(
     companions: &mut [usize],
     keepers: &mut [usize],
 ) -> usize
-    requires which_in_bounds { workspace_of (gate_called which) ≤ length work.old }
-    requires kinds_len { (length kinds.old ≡ marks_of (gate_called which)) × (length places.old ≡ marks_of (gate_called which)) × (length companions.old ≡ marks_of (gate_called which)) × (length keepers.old ≡ marks_of (gate_called which)) }
+    requires enough_workspace { workspace_of (gate_called which) ≤ length work.old }
+    requires lists_len { (length kinds.old ≡ marks_of (gate_called which)) × (length places.old ≡ marks_of (gate_called which)) × (length companions.old ≡ marks_of (gate_called which)) × (length keepers.old ≡ marks_of (gate_called which)) }
     ensures { output_at out.new result ≡ put (output_at out.old 0) (reasons_text which grouped bundle.now) }
 {
     let made = judge_lists(which, bundle, work, kinds, places, companions);

@@ -73,7 +73,7 @@ pub fn marks_by<'a>(
     companions: &mut [usize],
 ) -> bool
     ensures value { result ≡ can_judge (gate_by rules.now) (length work.old) (marks_in kinds.old places.old companions.old) }
-    ensures companions_after { marks_in kinds.new places.new companions.new ≡ marks_after (gate_by rules.now) scope (standing a.now b.now c.now stand.now) (length work.old) (marks_in kinds.old places.old companions.old) }
+    ensures board_after { marks_in kinds.new places.new companions.new ≡ marks_after (gate_by rules.now) scope (standing a.now b.now c.now stand.now) (length work.old) (marks_in kinds.old places.old companions.old) }
     ensures work_after { work.new ≡ work_afterwards (gate_by rules.now) scope (standing a.now b.now c.now stand.now) (marks_in kinds.old places.old companions.old) work.old }
 {
     let forms = file_forms();
@@ -101,7 +101,7 @@ pub fn schedule_marks<'a>(
     companions: &mut [usize],
 ) -> bool
     ensures value { result ≡ can_judge schedule (length work.old) (marks_in kinds.old places.old companions.old) }
-    ensures companions_after { marks_in kinds.new places.new companions.new ≡ marks_after schedule scope (standing a.now b.now c.now stand.now) (length work.old) (marks_in kinds.old places.old companions.old) }
+    ensures board_after { marks_in kinds.new places.new companions.new ≡ marks_after schedule scope (standing a.now b.now c.now stand.now) (length work.old) (marks_in kinds.old places.old companions.old) }
     ensures work_after { work.new ≡ work_afterwards schedule scope (standing a.now b.now c.now stand.now) (marks_in kinds.old places.old companions.old) work.old }
 {
     let rules = rule_rows();

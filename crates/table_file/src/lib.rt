@@ -95,8 +95,8 @@ fn element_at(
     cells: &mut [u32],
     r: usize,
 ) -> Reading
-    requires count_value { 0 < length hints.now → names_apart rows.now names.now count ≡ true }
-    requires required_value { count ≤ 64 → required.now ≡ required_from rows.now count 0 }
+    requires hinted_names_apart { 0 < length hints.now → names_apart rows.now names.now count ≡ true }
+    requires required_of_rows { count ≤ 64 → required.now ≡ required_from rows.now count 0 }
     ensures { cells_filled cells.new result ≡ element_at (fields_from rows.now names.now count 0) s.now at cells.old r }
 {
     if byte_at(s, at) != b'{' {
@@ -143,9 +143,9 @@ fn read_elements(
     cells: &mut [u32],
     single: bool,
 ) -> FileRead
-    requires from_nonzero { single ≡ false → (0 < from) × (from ≤ length s.now) }
-    requires count_value { 0 < length hints.now → names_apart rows.now names.now count ≡ true }
-    requires required_value { count ≤ 64 → required.now ≡ required_from rows.now count 0 }
+    requires from_inside { single ≡ false → (0 < from) × (from ≤ length s.now) }
+    requires hinted_names_apart { 0 < length hints.now → names_apart rows.now names.now count ≡ true }
+    requires required_of_rows { count ≤ 64 → required.now ≡ required_from rows.now count 0 }
     ensures { table_read cells.new result ≡ cond single (single_at (fields_from rows.now names.now count 0) s.now cells.old from) (elements_from (length s.now) (fields_from rows.now names.now count 0) s.now from cells.old 0) }
 {
     let mut at = from;

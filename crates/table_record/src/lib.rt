@@ -96,8 +96,8 @@ fn pair_at(
     cells: &mut [u32],
     base: usize,
 ) -> Paired
-    requires s_len_bound { (length s.now < 2 ^ 32) × ((at ≤ length s.now) × (base + 2 * count ≤ length cells.old)) }
-    requires count_value { 0 < length hints.now → names_apart rows.now names.now count ≡ true }
+    requires all_inside { (length s.now < 2 ^ 32) × ((at ≤ length s.now) × (base + 2 * count ≤ length cells.old)) }
+    requires hinted_names_apart { 0 < length hints.now → names_apart rows.now names.now count ≡ true }
     ensures { cells_filled cells.new result.reading ≡ pair_at (fields_from rows.now names.now count 0) s.now at cells.old base }
 {
     match named_at(s, at, rows, names, count, hints, guess) {
@@ -140,7 +140,7 @@ fn is_missing(
     base: usize,
 ) -> bool
     requires count_in_bounds { base + 2 * count ≤ length cells.now }
-    requires required_value { required.now ≡ required_from rows.now count 0 }
+    requires required_of_rows { required.now ≡ required_from rows.now count 0 }
     ensures { result ≡ is_missing (fields_from rows.now names.now count 0) cells.now base 0 }
 {
     let mut i = 0;
@@ -164,7 +164,7 @@ fn close_at(
     base: usize,
 ) -> Reading
     requires at_bound { (at < 2 ^ 63) × (base + 2 * count ≤ length cells.now) }
-    requires required_value { required.now ≡ required_from rows.now count 0 }
+    requires required_of_rows { required.now ≡ required_from rows.now count 0 }
     ensures { result ≡ record_closed_at (fields_from rows.now names.now count 0) cells.now base at }
 {
     if is_missing(required, rows, names, count, cells, base) {
@@ -188,9 +188,9 @@ fn read_pairs(
     cells: &mut [u32],
     base: usize,
 ) -> Reading
-    requires s_len_bound { (length s.now < 2 ^ 32) × (((0 < from) × (from ≤ length s.now)) × (base + 2 * count ≤ length cells.old)) }
-    requires count_value { 0 < length hints.now → names_apart rows.now names.now count ≡ true }
-    requires required_value { required.now ≡ required_from rows.now count 0 }
+    requires all_inside { (length s.now < 2 ^ 32) × (((0 < from) × (from ≤ length s.now)) × (base + 2 * count ≤ length cells.old)) }
+    requires hinted_names_apart { 0 < length hints.now → names_apart rows.now names.now count ≡ true }
+    requires required_of_rows { required.now ≡ required_from rows.now count 0 }
     ensures { cells_filled cells.new result ≡ pairs_from (length s.now) (fields_from rows.now names.now count 0) s.now from cells.old base }
 {
     let mut at = from;
@@ -285,8 +285,8 @@ pub fn read_record(
     cells: &mut [u32],
     base: usize,
 ) -> Reading
-    requires count_value { 0 < length hints.now → names_apart rows.now names.now count ≡ true }
-    requires required_value { count ≤ 64 → required.now ≡ required_from rows.now count 0 }
+    requires hinted_names_apart { 0 < length hints.now → names_apart rows.now names.now count ≡ true }
+    requires required_of_rows { count ≤ 64 → required.now ≡ required_from rows.now count 0 }
     ensures value { result ≡ (record_at (fields_from rows.now names.now count 0) s.now at cells.old base).outcome }
     ensures cells_after { cells.new ≡ (record_at (fields_from rows.now names.now count 0) s.now at cells.old base).cells }
 {
