@@ -1,4 +1,2 @@
-pub mod Again
-pub mod Big
 pub mod Filled
 pub mod Facts
