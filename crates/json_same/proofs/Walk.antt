@@ -67,10 +67,9 @@ plain_step s i b is p =
 
 -- ---- where they end
 -- a step that is no character, told by its tag
-pub end-by-tag : (e : Step) → OneOf (1 ∷ 2 ∷ []) (tag_of the_type e) → is_end e ≡ true
+pub end-by-tag : (e : Step) → ((code next : ℕ) → e ≡ Char code next → ⊥) → is_end e ≡ true
 unfolding is_end
-end-by-tag (Char code next) (inl k) = absurd (omega (arith, k))
-end-by-tag (Char code next) (inr k) = absurd (omega (arith, k))
+end-by-tag (Char code next) k = absurd (k code next refl)
 end-by-tag Close k = refl
 end-by-tag (Bad kind place) k = refl
 

@@ -1,0 +1,20 @@
+-- `drawer_places::length_before` meets its contract.
+use Prim.Native.Nat.{◌-◌, ◌≤◌}
+use native.Mathlib.Omega.{arith}
+use borrow.Author.Rules.{rules}
+use Rattle.drawer_places.proofs.Laws.{SumOf, sum-start, sum-turn, sum-end, length_if_before}
+use Rattle.drawer_layout.specs.Places.{length_before}
+use Rattle.drawer_places.proofs.length_before.Goals as goal
+
+pub loop-j-init : goal.loop-j-init
+loop-j-init c = (omega arith, sum-start _)
+
+pub overflow_add-sum : goal.overflow_add-sum
+overflow_add-sum c = omega (arith, c.loop-j.invariant.1.small, c.length_if_before-sum.ensures.1)
+
+pub loop-j-preserved : goal.loop-j-preserved
+loop-j-preserved c = (omega arith, sum-turn _ _ c.loop-j.invariant.1 c.length_if_before-sum.ensures.0 (omega (arith, c.length_if_before-sum.ensures.1)))
+
+pub returns : goal.returns
+unfolding length_before
+returns c = sum-end _ _ 20 c.loop-j.invariant.1 (omega (arith, c.loop-j.invariant.0, c.loop-j-test.false))

@@ -1,0 +1,27 @@
+-- `json_bytes::word_at` meets its contract: what is left of the word, read from here, answers as the whole word does.
+use Prim.Native.Nat.{◌+◌, ◌-◌, ◌≤◌}
+use mathlib.Core.Path.{◌≡◌, refl, sym, ◌∙◌}
+use native.Mathlib.Omega.{arith}
+use lib.ListN.{length, drop}
+use native.Mathlib.Nat.{add-zero}
+use borrow.Author.Rules.{rules}
+use Rattle.json_bytes.specs.Reads.{spelled_at}
+use Rattle.json_bytes.proofs.Laws.{word_more, word-stops, word-ends}
+use Rattle.json_bytes.proofs.word_at.Goals as goal
+
+pub loop-k-init : goal.loop-k-init
+loop-k-init c = (omega arith, rw add-zero)
+
+pub returns-then-byte_at-word : goal.returns-then-byte_at-word
+returns-then-byte_at-word c = sym (c.loop-k.invariant.1 ∙
+    word-stops _ _ _ _ c.loop-k-test.true (λ e. c.if-byte_at-word.true (c.byte_at.ensures ∙ e)))
+
+pub loop-k-preserved : goal.loop-k-preserved
+loop-k-preserved c = (
+  omega arith,
+  c.loop-k.invariant.1 ∙
+      word_more _ _ _ _ c.loop-k-test.true (sym c.byte_at.ensures ∙ c.if-byte_at-word.false),
+)
+
+pub returns : goal.returns
+returns c = sym (c.loop-k.invariant.1 ∙ word-ends _ _ _ _ c.loop-k-test.false)

@@ -1,0 +1,16 @@
+-- `json_bytes::word_at` meets its contract: what is left of the word, read from here, answers as the whole word does.
+use Prim.Native.Nat.{◌+◌, ◌-◌, ◌≤◌}
+use mathlib.Core.Path.{◌≡◌, refl, sym, ◌∙◌}
+use native.Mathlib.Omega.{arith}
+use lib.ListN.{length, drop}
+use native.Mathlib.Nat.{add-zero}
+use borrow.Author.Rules.{rules}
+use Rattle.json_bytes.specs.Reads.{spelled_at}
+use Rattle.json_bytes.proofs.Laws.{word_more, word-stops, word-ends}
+use Rattle.json_bytes.proofs.word_at.Given as goal
+
+abbrev pub invariant-loop-k : goal.invariant-loop-k
+invariant-loop-k l = (l.k ≤ length l.word) × (spelled_at l.s l.at l.word ≡ spelled_at l.s (l.at + l.k) (drop l.k l.word))
+
+abbrev pub decreases-loop-k : goal.decreases-loop-k
+decreases-loop-k l = length l.word - l.k

@@ -1,0 +1,20 @@
+-- `json_same::beginning_of` meets its contract: the test for a quote decides the definition, and a quote stands inside the slice.
+use borrow.Author.Rules.{rules}
+use borrow.Author.Tests.{eq-eqb, ne_eqb}
+use mathlib.Core.Path.{sym, ◌∙◌}
+use native.Mathlib.Omega.{arith}
+use lib.Dec.{lit<}
+use Rattle.json_bytes.proofs.Laws.{inside}
+use Rattle.json_same.specs.Walk.{beginning}
+use Rattle.json_same.proofs.beginning_of.Goals as goal
+
+pub overflow_add-result : goal.overflow_add-result
+overflow_add-result c = omega (arith, inside c.args.s.now _ 34 (sym c.byte_at.ensures ∙ c.if-byte_at-eq34.true) (lit< tt))
+
+pub returns-then-byte_at-eq34 : goal.returns-then-byte_at-eq34
+unfolding beginning
+returns-then-byte_at-eq34 c = rw (← c.byte_at.ensures, eq-eqb _ 34 c.if-byte_at-eq34.true)
+
+pub returns : goal.returns
+unfolding beginning
+returns c = rw (← c.byte_at.ensures, ne_eqb _ 34 c.if-byte_at-eq34.false)

@@ -1,0 +1,11 @@
+-- `text_place::lesser` meets its contract: the test that led to each answer decides the definition.
+use mathlib.Core.Path.{refl}
+use native.Mathlib.Omega.{arith}
+use borrow.Author.Tests.{lt-ltb, le-ltb}
+use Rattle.text_place.proofs.lesser.Goals as goal
+
+pub returns-then-a-b : goal.returns-then-a-b
+returns-then-a-b c = (rw (lt-ltb _ _ c.if-a-b.true), omega arith)
+
+pub returns : goal.returns
+returns c = (rw (le-ltb _ _ c.if-a-b.false), omega arith)
