@@ -20,18 +20,16 @@ use Rattle.rule_key.specs.declared.Key.{Key}
 use Rattle.rule_key.specs.Key.{same_integer, same_date, same_field, same_key, earliest, repeats, key_rule}
 
 -- ---- Two values
--- what is no Integer, told by its tag, equals nothing
-pub no-integer : (a b : Integer) → OneOf (1 ∷ 2 ∷ []) (tag_of the_type a) → false ≡ same_integer a b
+-- what is no Integer, told by its variant, equals nothing
+pub no-integer : (a b : Integer) → ((m : Bool) (x : ℕ) → a ≡ Is m x → ⊥) → false ≡ same_integer a b
 unfolding same_integer
-no-integer (Is m x) b (inl k) = absurd (omega (arith, k))
-no-integer (Is m x) b (inr k) = absurd (omega (arith, k))
+no-integer (Is m x) b k = absurd (k m x refl)
 no-integer Fraction b k = refl
 no-integer TooLarge b k = refl
 
-pub integer-no : (a b : Integer) → OneOf (1 ∷ 2 ∷ []) (tag_of the_type b) → false ≡ same_integer a b
+pub integer-no : (a b : Integer) → ((m : Bool) (x : ℕ) → b ≡ Is m x → ⊥) → false ≡ same_integer a b
 unfolding same_integer
-integer-no (Is m x) (Is n y) (inl k) = absurd (omega (arith, k))
-integer-no (Is m x) (Is n y) (inr k) = absurd (omega (arith, k))
+integer-no (Is m x) (Is n y) k = absurd (k n y refl)
 integer-no (Is m x) Fraction k = refl
 integer-no (Is m x) TooLarge k = refl
 integer-no Fraction b k = refl

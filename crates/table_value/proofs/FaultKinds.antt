@@ -163,7 +163,7 @@ module _ (s : List ℕ) (at ty : ℕ) where
   value-kinds =
       joined (text_kinds ++ string_found ty) _ (eqb (byte_at s at) 34) _ _ of-string
       (joined (number_kinds ++ number_found ty) _ (starts_number (byte_at s at)) _ _ of_number
-      (joined (15 ∷ []) _ (opens (byte_at s at)) _ _ refl of-literal))
+      (joined (15 ∷ []) (literal_kinds ++ literal_found ty) (opens (byte_at s at)) _ _ refl of-literal))
 
   -- ---- where a number stands
   number_is : starts_number (byte_at s at) ≡ true → value_at s at ty ≡ number_value at ty (number_at s at)

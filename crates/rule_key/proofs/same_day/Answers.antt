@@ -1,0 +1,12 @@
+-- `rule_key::same_day` meets its contract: the tests that led to each answer decide the definition.
+use borrow.Author.Tests.{eq-eqb, ne_eqb}
+use Rattle.rule_key.proofs.same_day.Goals as goal
+
+pub returns-then-y-z : goal.returns-then-y-z
+returns-then-y-z c = rw (ne_eqb _ _ c.if-y-z.true)
+
+pub returns-then-m-n : goal.returns-then-m-n
+returns-then-m-n c = rw (eq-eqb _ _ c.if-y-z.false, ne_eqb _ _ c.if-m-n.true)
+
+pub returns : goal.returns
+returns c = rw (eq-eqb _ _ c.if-y-z.false, eq-eqb _ _ c.if-m-n.false)

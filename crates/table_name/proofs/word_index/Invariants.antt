@@ -1,0 +1,16 @@
+-- `table_name::word_index` meets its contract: what is left of the search at the loop's head answers as the whole does.
+use borrow.Author.Rules.{rules}
+use mathlib.Core.Path.{◌≡◌, sym, ◌∙◌}
+use native.Mathlib.Omega.{arith}
+use Prim.Native.Nat.{◌+◌, ◌-◌, ◌≤◌}
+use native.Mathlib.Nat.{sub-zero, zero-add}
+use Rattle.table_rows.specs.Rows.{fields_from}
+use Rattle.table_name.specs.Name.{index_of}
+use Rattle.table_name.proofs.Laws.{field_told, index-more, index-found, index-none}
+use Rattle.table_name.proofs.word_index.Given as goal
+
+abbrev pub invariant-loop-k : goal.invariant-loop-k
+invariant-loop-k l = (l.k ≤ l.count) × (index_of l.word (fields_from l.rows l.names l.count 0) ≡ l.k + index_of l.word (fields_from l.rows l.names (l.count - l.k) l.k))
+
+abbrev pub decreases-loop-k : goal.decreases-loop-k
+decreases-loop-k l = l.count - l.k
