@@ -1,9 +1,8 @@
 -- The cases of order 9's readings as one statement over their list: the definitions answer what is stated, by computation. What a
 -- changed file touches, 9.10, is computed in contract_rules.
 -- Assumes nothing.
-use Prim.Native.Nat.{ℕ}
 use mathlib.Core.Path.{◌≡◌, refl}
-use mathlib.Core.List.{List, [], ◌∷◌, map}
+use mathlib.Core.List.{[], ◌∷◌, map}
 use Rattle.table_file.proofs.Opens.{open-files}
 use Rattle.rules.proofs.Opens.{open-rules}
 use Rattle.contract_rules.proofs.Opens.{open-contract-rows}

@@ -1,22 +1,22 @@
 -- What it takes that a desk is not refused, and the joined set after a change.
 -- Assumes nothing.
-use Prim.Native.Nat.{ℕ, zero, suc, ◌≤◌, ◌<◌}
+use Prim.Native.Nat.{ℕ, zero, suc, ◌<◌}
 use mathlib.Core.Path.{◌≡◌, refl, sym, ap, ◌∙◌}
 use mathlib.Core.Bool.{Bool, true, false, cond, not, ◌&&◌, ◌||◌, or-true, true≢false}
 use mathlib.Core.List.{List}
 use native.Mathlib.Omega.{arith}
-use borrow.Author.Tests.{lt-ltb, ltb-true, eq-eqb, ne_eqb, eqb-true, eqb-false, not-true, not-false}
+use borrow.Author.Tests.{lt-ltb, eq-eqb, ne_eqb, eqb-true, eqb-false, not-true}
 use lib.Dec.{ltb, eqb}
-use Rattle.json_bytes.proofs.Laws.{by-test, both_left, both_right}
+use Rattle.json_bytes.proofs.Laws.{both_left, both_right}
 use Rattle.parts.specs.Files.{File, is_present}
 use Rattle.bundle_bytes.specs.Pieces.{changed}
-use Rattle.bundle_bytes.proofs.Laws.{changed-hit, changed-miss}
-use Rattle.bundle_layout.specs.Bundle.{bundle_fault, file_at, bundle_of, bundle_length}
+use Rattle.bundle_bytes.proofs.Laws.{changed-miss}
+use Rattle.bundle_layout.specs.Bundle.{bundle_fault, file_at, bundle_of}
 use Rattle.bundle_layout.specs.Change.{files_after, try_fault, make_fault}
 use Rattle.bundle_layout.proofs.Laws.{try-none, make-none}
 use Rattle.bundle_layout.proofs.RoundTrip.{after-change}
 use Rattle.desks_calls.specs.Join.{is_shared, may_hold, holds_only, joined_set, or_else, join_fault, change_fault}
-use Rattle.desks_calls.specs.Desks.{Sight, NoChange, OwnChange, CalendarChange, sight_fault, desk_fault}
+use Rattle.desks_calls.specs.Desks.{Sight, sight_fault, desk_fault}
 
 -- ---- no refusal
 module _ (first second : ℕ) where

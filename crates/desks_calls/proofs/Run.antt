@@ -3,7 +3,7 @@
 -- Assumes nothing.
 use Prim.Native.Nat.{ℕ}
 use mathlib.Core.Path.{◌≡◌, refl, sym, ap, ◌∙◌}
-use mathlib.Core.Bool.{Bool, true, false, cond, not, ◌&&◌, ◌||◌, or-true, true≢false}
+use mathlib.Core.Bool.{Bool, true, false, cond, not, ◌&&◌, or-true, true≢false}
 use mathlib.Core.List.{List, [], ◌∷◌}
 use borrow.Author.Tests.{eq-eqb, eqb-true, eqb-false}
 use lib.Dec.{eqb}
@@ -14,7 +14,7 @@ use Rattle.bundle_layout.specs.Change.{files_after}
 use Rattle.gate_marks.specs.Gate.{Gate}
 use Rattle.desks_calls.specs.declared.Whose.{Whose}
 use Rattle.desks_calls.specs.declared.Whose.TheVariants.{DeskA, DeskB, Calendars}
-use Rattle.desks_calls.specs.Join.{DeskAnswer, judged_join}
+use Rattle.desks_calls.specs.Join.{judged_join}
 use Rattle.desks_calls.specs.Desks.{Sight, NoChange, OwnChange, CalendarChange, sight_of, seen_by_a, seen_by_b, desk_fault, answered_by, desk_answer, is_written, DesksAnswer, both_answered, desks_answer}
 use Rattle.desks_calls.specs.Run.{Call, DesksState, answer_to, bundle_now, marks_now, desks_next, desks_stepped, after_calls}
 use Rattle.desks_calls.proofs.Demands.{refused, not_seen, own-right, calendar-right}

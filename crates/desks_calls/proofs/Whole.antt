@@ -1,25 +1,18 @@
 -- Both desks in one call: what each is answered is a function of its own things, and what is written. Quotations are of
 -- document 02, order 10.
 -- Assumes nothing.
-use Prim.Native.Nat.{ℕ, ◌+◌, ◌<◌, ◌≤◌}
-use mathlib.Core.Path.{◌≡◌, refl, sym, ap, ◌∙◌}
-use mathlib.Core.Bool.{Bool, true, false, cond, ◌||◌, true≢false}
-use mathlib.Core.List.{List, ◌++◌}
-use native.Mathlib.Omega.{arith}
+use Prim.Native.Nat.{ℕ}
+use mathlib.Core.Path.{◌≡◌, refl, sym, ◌∙◌}
+use mathlib.Core.Bool.{Bool, true, false, ◌||◌, true≢false}
+use mathlib.Core.List.{List}
 use borrow.Author.Tests.{eqb-true}
-use lib.ListN.{length, take, drop}
-use lib.Seq.{take_at}
 use lib.Dec.{eqb}
 use Rattle.parts.specs.Files.{File}
-use Rattle.mark_numbers.specs.Marks.{Marks}
-use Rattle.bundle_layout.specs.Bundle.{bundle_of, bundle_length}
-use Rattle.bundle_layout.specs.Change.{files_after, make_fault, output_of}
-use Rattle.bundle_layout.proofs.Laws.{bundle-length}
+use Rattle.bundle_layout.specs.Change.{make_fault}
 use Rattle.gate_marks.specs.Gate.{Gate}
 use Rattle.desks_calls.specs.declared.Whose.{Whose}
 use Rattle.desks_calls.specs.declared.Whose.TheVariants.{DeskA, DeskB, Calendars}
-use Rattle.desks_calls.specs.Join.{DeskAnswer}
-use Rattle.desks_calls.specs.Desks.{Sight, OwnChange, CalendarChange, sight_of, seen_by_a, seen_by_b, sight_fault, desk_fault, answered_by, desk_answer, bundle_changed, is_written, DesksAnswer, both_answered, desks_answer, output_by, desks_output}
+use Rattle.desks_calls.specs.Desks.{Sight, OwnChange, CalendarChange, sight_of, seen_by_a, seen_by_b, sight_fault, desk_fault, desk_answer, bundle_changed, is_written, both_answered, desks_answer}
 use Rattle.desks_calls.specs.Run.{Call, DesksState, answer_to}
 use Rattle.desks_calls.proofs.Laws.{desk-none, change-none}
 

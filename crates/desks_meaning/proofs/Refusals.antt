@@ -5,7 +5,7 @@ use Prim.Native.Nat.{ℕ, suc}
 use mathlib.Core.Path.{◌≡◌, refl, sym, ap, ◌∙◌}
 use mathlib.Core.Bool.{Bool, true, false, cond, not, ◌&&◌, ◌||◌}
 use mathlib.Core.List.{List, [], ◌∷◌, ◌++◌}
-use borrow.Author.Tests.{eq-eqb, eqb-true}
+use borrow.Author.Tests.{eqb-true}
 use lib.ListN.{length}
 use lib.Dec.{ltb, eqb}
 use Rattle.parts.specs.Files.{File}
@@ -15,7 +15,7 @@ use Rattle.bundle_layout.specs.Change.{files_after, try_fault, make_fault}
 use Rattle.gate_calls.proofs.Refusals.{first_refusal, is_case, in-case, bundle_rows}
 use Rattle.desks_calls.specs.Join.{may_hold, holds_only, or_else, join_fault, change_fault}
 use Rattle.desks_calls.specs.Desks.{Sight, NoChange, OwnChange, CalendarChange, sight_fault, desk_fault}
-use Rattle.desks_calls.proofs.Laws.{first-none, join-none}
+use Rattle.desks_calls.proofs.Laws.{join-none}
 
 -- a change: 4, "right after 4" 9, then 6 and 5
 pub change_rows : ℕ → Bool → List ℕ → ℕ → File → ℕ → List (Bool × ℕ)

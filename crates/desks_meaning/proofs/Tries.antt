@@ -2,8 +2,8 @@
 -- give" (document 01, "The bundle").
 -- Assumes nothing.
 use Prim.Native.Nat.{ℕ, ◌≤◌}
-use mathlib.Core.Path.{◌≡◌, refl, sym, ap, ◌∙◌}
-use mathlib.Core.Bool.{Bool, true, false, cond, not, ◌&&◌}
+use mathlib.Core.Path.{◌≡◌, refl, sym}
+use mathlib.Core.Bool.{Bool, true, false, cond}
 use mathlib.Core.List.{List}
 use borrow.Author.Tests.{le-ltb, eqb-true}
 use lib.Dec.{ltb, eqb}
@@ -15,8 +15,8 @@ use Rattle.bundle_layout.proofs.Laws.{try-none, try-make}
 use Rattle.gate_marks.specs.Gate.{Gate}
 use Rattle.desks_calls.specs.declared.Whose.{Whose}
 use Rattle.desks_calls.specs.declared.Whose.TheVariants.{DeskA, DeskB, Calendars}
-use Rattle.desks_calls.specs.Join.{join_fault, or_else, change_fault}
-use Rattle.desks_calls.specs.Desks.{Sight, OwnChange, CalendarChange, sight_of, seen_by_a, seen_by_b, sight_fault, desk_fault, join_after, marks_seen, answered_by, desk_answer, bundle_changed, both_answered, desks_answer, long_enough}
+use Rattle.desks_calls.specs.Join.{change_fault}
+use Rattle.desks_calls.specs.Desks.{OwnChange, CalendarChange, sight_of, seen_by_a, seen_by_b, sight_fault, desk_fault, join_after, marks_seen, answered_by, desk_answer, bundle_changed, desks_answer, long_enough}
 
 module _ (n : ℕ) (s : List ℕ) (k : ℕ) (f : File) where
   -- no bundle is too long for it

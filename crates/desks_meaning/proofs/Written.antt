@@ -1,24 +1,23 @@
 -- What the call of the desks writes. Quotations are of document 02, order 10, and of document 01, "The bundle".
 -- Assumes nothing.
 use Prim.Native.Nat.{ℕ}
-use mathlib.Core.Path.{◌≡◌, refl, sym, ap, ◌∙◌}
-use mathlib.Core.Bool.{Bool, true, false, cond, ◌||◌, true≢false}
+use mathlib.Core.Path.{◌≡◌, refl, sym}
+use mathlib.Core.Bool.{Bool, true, false, ◌||◌, true≢false}
 use mathlib.Core.List.{List, ◌++◌}
-use borrow.Author.Tests.{eq-eqb, ne_eqb, eqb-false}
+use borrow.Author.Tests.{ne_eqb, eqb-false}
 use lib.ListN.{length, take, drop}
 use lib.Seq.{take_at}
 use lib.Dec.{eqb}
 use Rattle.parts.specs.Files.{File}
 use Rattle.mark_numbers.specs.Marks.{Marks}
-use Rattle.bundle_layout.specs.Bundle.{bundle_fault, bundle_of, bundle_length}
-use Rattle.bundle_layout.specs.Change.{files_after, make_fault, output_of}
+use Rattle.bundle_layout.specs.Bundle.{bundle_fault, bundle_of}
+use Rattle.bundle_layout.specs.Change.{files_after, output_of}
 use Rattle.bundle_layout.proofs.Laws.{bundle-length, make-none}
 use Rattle.bundle_layout.proofs.RoundTrip.{after-change}
 use Rattle.gate_marks.specs.Gate.{Gate}
 use Rattle.desks_calls.specs.declared.Whose.{Whose}
 use Rattle.desks_calls.specs.declared.Whose.TheVariants.{Calendars}
-use Rattle.desks_calls.specs.Join.{DeskAnswer}
-use Rattle.desks_calls.specs.Desks.{sight_of, seen_by_a, seen_by_b, desk_fault, answered_by, desk_answer, bundle_changed, is_written, DesksAnswer, both_answered, desks_answer, output_by, desks_output}
+use Rattle.desks_calls.specs.Desks.{answered_by, desk_answer, bundle_changed, is_written, DesksAnswer, both_answered, desks_answer, output_by, desks_output}
 use Rattle.desks_calls.proofs.Whole.{written-made}
 
 -- "A calendar change .. is written unless both are refused"

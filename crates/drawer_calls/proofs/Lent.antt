@@ -1,11 +1,9 @@
 -- With room the calls over what is lent answer what the calls of a drawer answer; and what a change's call does, by its refusals.
 -- Assumes nothing.
 use Prim.Native.Nat.{ℕ}
-use mathlib.Core.Path.{◌≡◌, refl, sym, ap, ◌∙◌}
-use mathlib.Core.Bool.{Bool, true, false, cond}
+use mathlib.Core.Path.{◌≡◌}
 use mathlib.Core.List.{List}
 use borrow.Author.Tests.{eq-eqb, ne_eqb}
-use lib.Dec.{eqb}
 use Rattle.parts.specs.Files.{File}
 use Rattle.mark_numbers.specs.Marks.{Marks}
 use Rattle.bundle_layout.specs.Change.{files_after}
@@ -14,7 +12,7 @@ use Rattle.gate_calls.specs.Calls.{changed_marks}
 use Rattle.gate_calls.specs.Lent.{lent_fault}
 use Rattle.gate_calls.proofs.Lent.{lent-lists, lent-room}
 use Rattle.drawer_held.specs.Drawer.{drawer_change_fault, drawer_made}
-use Rattle.drawer_calls.specs.Calls.{DrawerAnswer, drawer_answer, drawer_judged, drawer_changed}
+use Rattle.drawer_calls.specs.Calls.{drawer_answer, drawer_judged, drawer_changed}
 use Rattle.drawer_calls.specs.Lent.{drawer_judged_in, drawer_changed_in, drawer_made_in}
 
 -- ---- a change, by its refusal

@@ -3,31 +3,30 @@
 use Prim.Native.Nat.{ℕ, zero, suc, ◌+◌, ◌*◌, ◌-◌, ◌≤◌, ◌<◌}
 use mathlib.Core.Path.{◌≡◌, refl, sym, ap, ◌∙◌}
 use mathlib.Core.Bool.{Bool, true, false, cond, ◌||◌}
-use mathlib.Core.Logic.{◌⊎◌, inl, inr, ⊎_elim}
+use mathlib.Core.Logic.{◌⊎◌, ⊎_elim}
 use mathlib.Core.List.{List, [], ◌∷◌, ◌++◌, append-nil}
 use native.Mathlib.Nat.{add-sub_cancel_left, zero-add}
 use native.Mathlib.Numerals.{add-one}
 use native.Mathlib.Omega.{arith}
 use borrow.Author.Tests.{ltb-true, ltb-false, eqb-true, eqb-false, lt-ltb, le-ltb, eq-eqb, ne_eqb}
-use lib.ListN.{length, get_or, take, drop, set, length-set, length-append, take-append-drop, length-drop}
-use lib.Seq.{get_or-set_same, get_or-set_other, take_all, drop-length, set-append_seam, append_snoc, drop-cons, length-take-le, set-set}
+use lib.ListN.{length, get_or, take, drop, set, length-append, length-drop}
+use lib.Seq.{get_or-set_same, get_or-set_other, drop-length, set-append_seam, append_snoc, drop-cons, length-take-le}
 use lib.Dec.{ltb, eqb}
 use Rattle.json_bytes.proofs.Laws.{by-test}
-use Rattle.parts.specs.Files.{File, Left, Given, is_present, bytes_of, new_file}
+use Rattle.parts.specs.Files.{File, Left, Given, bytes_of}
 use Rattle.parts.proofs.Laws.{part-is}
 use Rattle.bundle_bytes.specs.Words.{word_at}
-use Rattle.bundle_bytes.specs.Pieces.{piece_start, changed}
+use Rattle.bundle_bytes.specs.Pieces.{piece_start}
 use Rattle.bundle_bytes.proofs.Laws.{changed-same, changed-other}
 use Rattle.bundle_layout.specs.Bundle.{header_size, offset_at, length_at, is_omitted, part_at, file_at, pieces_of, bundle_length}
 use Rattle.bundle_layout.specs.Change.{files_after}
-use Rattle.bundle_layout.proofs.Laws.{omitted-file, present-file, omitted-length, omitted-offset}
-use Rattle.bundle.specs.declared.FileState.{FileState}
+use Rattle.bundle_layout.proofs.Laws.{omitted-length}
 use Rattle.bundle.specs.declared.FileState.TheVariants.{Present, Omitted, Refused}
 use Rattle.drawer_layout.specs.Places.{total, list_of, all_lengths, stand_apart}
-use Rattle.drawer_layout.proofs.Laws.{Laid, laid, last-or-before, under-or-not}
+use Rattle.drawer_layout.proofs.Laws.{Laid, laid}
 use Rattle.drawer_moves.specs.Painted.{part_in}
 use Rattle.drawer_moves.proofs.Sums.{total-step, list_at, list_length}
-use Rattle.drawer_held.specs.Drawer.{header_number, offsets_of, lengths_of, drawer_fault, held_fault, part_held, state_held, drawer_change_fault, lengths_freed, lengths_after}
+use Rattle.drawer_held.specs.Drawer.{header_number, offsets_of, lengths_of, drawer_fault, held_fault, part_held, state_held, drawer_change_fault, lengths_freed}
 
 -- ---- numbers read into a list, one more with each turn
 abbrev pub Filled : (ℕ → ℕ) → ℕ → List ℕ → List ℕ → Type 0

@@ -1,17 +1,17 @@
 -- What is known of bytes in common, of files that stand apart, and of the lowest gap between them.
 -- Assumes nothing.
 use Prim.Native.Nat.{ℕ, zero, suc, ◌+◌, ◌-◌, ◌≤◌, ◌<◌}
-use mathlib.Core.Path.{◌≡◌, refl, sym, ap, ◌∙◌}
-use mathlib.Core.Bool.{Bool, true, false, cond, not, ◌&&◌, ◌||◌, and-false, or-false}
+use mathlib.Core.Path.{◌≡◌, refl, sym, ◌∙◌}
+use mathlib.Core.Bool.{Bool, true, false, not, ◌&&◌, ◌||◌, and-false, or-false}
 use mathlib.Core.Logic.{◌⊎◌, inl, inr, ⊎_elim}
 use mathlib.Core.List.{List}
 use native.Mathlib.Nat.{eq-or-lt_of_le, le_of_suc-le-suc, add-zero}
 use native.Mathlib.Numerals.{add-one}
 use native.Mathlib.Omega.{arith}
-use borrow.Author.Tests.{ltb-true, ltb-false, leb-true, eqb-true, lt-ltb, le-ltb, le-leb, lt-leb, eq-eqb, ne_eqb, not-true}
-use lib.ListN.{length, get_or}
+use borrow.Author.Tests.{ltb-true, ltb-false, leb-true, eqb-true, lt-ltb, le-leb, lt-leb, ne_eqb, not-true}
+use lib.ListN.{get_or}
 use lib.Dec.{ltb, leb, eqb}
-use Rattle.json_bytes.proofs.Laws.{by-test, both_left, both_right}
+use Rattle.json_bytes.proofs.Laws.{both_left, both_right}
 use Rattle.bundle_layout.specs.Bundle.{header_size}
 use Rattle.drawer_layout.specs.Places.{share_byte, is_in_way, is_free, stands_inside, stand_apart, first_free, lowest_gap}
 use Rattle.drawer_layout.specs.Way.{Way}

@@ -1,9 +1,8 @@
 -- Cases of the readings, computed: a drawer of 170 bytes, `..AB..`, with file 0 at 166.
 -- Assumes nothing.
-use Prim.Native.Nat.{ℕ}
 use mathlib.Core.Path.{◌≡◌, refl}
-use mathlib.Core.Bool.{Bool, true, false}
-use mathlib.Core.List.{List, [], ◌∷◌}
+use mathlib.Core.Bool.{true, false}
+use mathlib.Core.List.{[], ◌∷◌}
 use lib.ListN.{replicate, set}
 use Rattle.bundle_layout.specs.Bundle.{header_size}
 use Rattle.drawer_layout.specs.Places.{share_byte, is_in_way, is_free, stands_inside, stand_apart, first_free, lowest_gap, total, comes_before, length_before, all_lengths, moved_to, list_of, places_moved_down, are_moved, new_place, placed}

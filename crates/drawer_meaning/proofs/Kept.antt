@@ -3,25 +3,24 @@
 -- Assumes nothing.
 use Prim.Native.Nat.{ℕ, ◌+◌, ◌*◌, ◌-◌, ◌^◌, ◌≤◌, ◌<◌}
 use mathlib.Core.Path.{◌≡◌, refl, sym, ap, ◌∙◌}
-use mathlib.Core.Bool.{Bool, true, false, cond, ◌&&◌, ◌||◌}
+use mathlib.Core.Bool.{Bool, true, false}
 use mathlib.Core.Logic.{◌⊎◌, inl, inr, ⊎_elim}
 use mathlib.Core.List.{List, [], ◌∷◌, ◌++◌, append_assoc}
 use native.Mathlib.Nat.{add-sub_cancel_left}
 use native.Mathlib.Omega.{arith}
 use borrow.Author.Tests.{le-ltb, eq-eqb, ne_eqb}
-use lib.ListN.{length, get_or, set, take, drop, length-append, length-drop, take-append-drop}
+use lib.ListN.{length, get_or, take, drop, length-append, length-drop, take-append-drop}
 use lib.Seq.{take_at, drop_at, drop-append-add, drop-drop, get_or-set_same, get_or-set_other, get_or-append-add, get_or-drop}
-use lib.Dec.{eqb}
 use Rattle.json_bytes.proofs.Laws.{by-test}
 use Rattle.parts.specs.Files.{File, Left, Given, is_present, bytes_of}
 use Rattle.parts.proofs.Laws.{part-is}
 use Rattle.bundle_bytes.specs.Words.{word_at, word_of}
-use Rattle.bundle_bytes.specs.Pieces.{joined, changed}
+use Rattle.bundle_bytes.specs.Pieces.{joined}
 use Rattle.bundle_bytes.proofs.Laws.{word-length, word-in-part, joined-part-within, changed-same, changed-other}
-use Rattle.bundle_layout.specs.Bundle.{header_size, offset_at, length_at, is_omitted, part_at, file_at, pieces_of, bundle_length}
+use Rattle.bundle_layout.specs.Bundle.{header_size, offset_at, length_at, is_omitted, part_at, file_at, pieces_of}
 use Rattle.bundle_layout.specs.Change.{files_after}
-use Rattle.bundle_layout.proofs.Laws.{omitted-file, present-file, omitted-offset, omitted-length}
-use Rattle.drawer_layout.specs.Places.{places_moved_down, stand_apart}
+use Rattle.bundle_layout.proofs.Laws.{omitted-file, present-file, omitted-offset}
+use Rattle.drawer_layout.specs.Places.{places_moved_down}
 use Rattle.drawer_layout.proofs.Laws.{Laid, laid_so, under-or-not}
 use Rattle.drawer_moves.specs.Painted.{painted}
 use Rattle.drawer_moves.proofs.Painting.{painted-length, painted-part, painted-byte}

@@ -1,6 +1,6 @@
 -- The files in the order in which they are moved, where they go, and what is there meanwhile.
 -- Assumes nothing.
-use Prim.Native.Nat.{ℕ, zero, suc, ◌+◌, ◌-◌, ◌≤◌, ◌<◌}
+use Prim.Native.Nat.{ℕ, ◌+◌, ◌-◌, ◌≤◌, ◌<◌}
 use mathlib.Core.Path.{◌≡◌, refl, sym, ap, ◌∙◌}
 use mathlib.Core.Bool.{Bool, true, false, cond, ◌&&◌, ◌||◌}
 use mathlib.Core.Logic.{◌⊎◌, inl, inr, ⊎_elim}
@@ -9,19 +9,19 @@ use native.Mathlib.Nat.{zero-add, add-zero}
 use native.Mathlib.Numerals.{add-one}
 use native.Mathlib.Omega.{arith}
 use borrow.Author.Tests.{ltb-true, ltb-false, leb-true, eqb-true, eqb-false, lt-ltb, le-ltb, le-leb, lt-leb, eq-eqb, ne_eqb}
-use lib.ListN.{length, get_or, take, drop, set, length-drop, length-set}
-use lib.Seq.{paste, paste-zero, paste-suc, drop-paste, length-take-le, get_or-take, get_or-drop}
+use lib.ListN.{length, get_or, take, drop, set, length-drop}
+use lib.Seq.{paste, paste-suc, drop-paste, length-take-le, get_or-take, get_or-drop}
 use lib.Dec.{ltb, leb, eqb}
 use Rattle.json_bytes.proofs.Laws.{by-test, both_left, both_right}
 use Rattle.bundle_bytes.specs.Pieces.{written}
 use Rattle.bundle_bytes.proofs.Laws.{written-whole}
 use Rattle.bundle_layout.specs.Bundle.{header_size}
-use Rattle.drawer_layout.specs.Places.{total, comes_before, length_before, all_lengths, moved_to, places_moved_down, stand_apart}
-use Rattle.drawer_layout.proofs.Laws.{Laid, laid, under-or-not, last-or-before}
-use Rattle.drawer_moves.specs.Painted.{painted, part_in, files_moved, moved_in}
+use Rattle.drawer_layout.specs.Places.{comes_before, length_before, moved_to, places_moved_down, stand_apart}
+use Rattle.drawer_layout.proofs.Laws.{Laid, under-or-not, last-or-before}
+use Rattle.drawer_moves.specs.Painted.{part_in, files_moved, moved_in}
 use Rattle.drawer_moves.specs.Next.{is_next, Next, length_below, under_at, moved_under, Moving}
-use Rattle.drawer_moves.proofs.Sums.{total-same, total-le, total-more, total-step, total-none, list_at}
-use Rattle.drawer_moves.proofs.Painting.{painted-length, painted-none, painted-back, painted_same, painted-put}
+use Rattle.drawer_moves.proofs.Sums.{total-same, total-more, total-step, total-none, list_at}
+use Rattle.drawer_moves.proofs.Painting.{painted-none, painted-back, painted_same, painted-put}
 
 nothing-either : (t u : Bool) → ◌≡◌ {A = ℕ} (cond t 0 0) (cond u 0 0)
 nothing-either true true = refl

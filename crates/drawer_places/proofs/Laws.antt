@@ -1,17 +1,15 @@
 -- One turn of each sum over the files, and each way to a place.
 -- Assumes nothing.
-use Prim.Native.Nat.{ℕ, zero, suc, ◌+◌, ◌*◌, ◌^◌, ◌≤◌, ◌<◌}
-use mathlib.Core.Path.{◌≡◌, refl, sym, ap, ◌∙◌}
+use Prim.Native.Nat.{ℕ, ◌+◌, ◌*◌, ◌^◌, ◌≤◌, ◌<◌}
+use mathlib.Core.Path.{◌≡◌, refl, sym, ◌∙◌}
 use mathlib.Core.Bool.{Bool, true, false, cond}
 use mathlib.Core.List.{List}
 use native.Mathlib.Numerals.{add-one}
 use native.Mathlib.Omega.{arith}
 use borrow.Author.Tests.{lt-ltb, le-ltb, eq-eqb, ne_eqb}
 use lib.ListN.{get_or}
-use lib.Dec.{ltb, eqb}
 use Rattle.bundle_layout.specs.Bundle.{header_size}
 use Rattle.drawer_layout.specs.Places.{total, comes_before, length_before, all_lengths, moved_to, lowest_gap, are_moved, new_place}
-use Rattle.drawer_places.specs.declared.Choice.{Choice}
 use Rattle.drawer_places.specs.Choice.{chosen}
 
 -- ---- a sum so far: of j numbers, none over 2 ^ 32

@@ -1,29 +1,27 @@
 -- A drawer beside the bundle of its files: "the board is the one this change to its bundle would give". Document 02, order 12.
 -- Assumes nothing.
-use Prim.Native.Nat.{ℕ, ◌+◌, ◌≤◌, ◌<◌}
-use mathlib.Core.Path.{◌≡◌, refl, sym, ap, ◌∙◌}
-use mathlib.Core.Bool.{Bool, true, false, cond}
-use mathlib.Core.List.{List, ◌++◌}
+use Prim.Native.Nat.{ℕ, ◌<◌}
+use mathlib.Core.Path.{◌≡◌, sym, ap, ◌∙◌}
+use mathlib.Core.Bool.{cond}
+use mathlib.Core.List.{List}
 use native.Mathlib.Omega.{arith}
-use borrow.Author.Tests.{eq-eqb, le-ltb}
-use lib.ListN.{length, drop}
-use lib.Dec.{ltb, eqb}
+use borrow.Author.Tests.{eq-eqb}
+use lib.Dec.{eqb}
 use Rattle.parts.specs.Files.{File}
 use Rattle.bundle_bytes.specs.Pieces.{changed}
 use Rattle.mark_numbers.specs.Marks.{Marks}
-use Rattle.bundle_layout.specs.Bundle.{bundle_fault, file_at, bundle_of, bundle_length}
-use Rattle.bundle_layout.specs.Change.{files_after, try_fault, make_fault}
+use Rattle.bundle_layout.specs.Bundle.{bundle_fault, file_at, bundle_of}
+use Rattle.bundle_layout.specs.Change.{files_after, try_fault}
 use Rattle.bundle_layout.proofs.Laws.{try-fine}
 use Rattle.bundle_layout.proofs.RoundTrip.{bundle-same, length-same, read_back, bundle-accepted}
-use Rattle.gate_marks.specs.Gate.{Gate, marks_of}
-use Rattle.gate_marks.specs.Marks.{full_marks}
-use Rattle.gate_calls.specs.Calls.{Answer, answer, changed_marks, judgement, accepted, tried, change_made}
-use Rattle.gate_calls.proofs.Demand3.{full-same, judged, tried-well, try-is-make}
+use Rattle.gate_marks.specs.Gate.{Gate}
+use Rattle.gate_calls.specs.Calls.{Answer, judgement, accepted, tried}
+use Rattle.gate_calls.proofs.Demand3.{full-same, judged, tried-well}
 use Rattle.either_first.proofs.Files.{changed-below}
-use Rattle.drawer_held.specs.Drawer.{drawer_fault, drawer_change_fault, drawer_after, drawer_made}
+use Rattle.drawer_held.specs.Drawer.{drawer_fault, drawer_change_fault, drawer_after}
 use Rattle.drawer_held.proofs.Laws.{drawer-size, change-none}
-use Rattle.drawer_bundles.proofs.Room.{bundle-fits, bundle-small}
-use Rattle.drawer_meaning.proofs.Kept.{files-after, layout-kept, after-length}
+use Rattle.drawer_bundles.proofs.Room.{bundle-small}
+use Rattle.drawer_meaning.proofs.Kept.{files-after}
 use Rattle.drawer_calls.specs.Calls.{DrawerAnswer, drawer_answer, drawer_judged, drawer_changed}
 use Rattle.drawer_calls.proofs.Lent.{changed-well}
 

@@ -1,9 +1,9 @@
 -- Demands 1 to 3 for drawers, over any list of changes: after each the drawer is one, of the same length, its files are those
 -- that the changes leave, and the marks at hand are those of a full judgement of it.
 -- Assumes nothing.
-use Prim.Native.Nat.{ℕ, ◌<◌}
+use Prim.Native.Nat.{ℕ}
 use mathlib.Core.Path.{◌≡◌, refl, sym, ap, ◌∙◌}
-use mathlib.Core.Bool.{Bool, true, false, cond}
+use mathlib.Core.Bool.{Bool, true, false}
 use mathlib.Core.List.{List, [], ◌∷◌}
 use borrow.Author.Tests.{eq-eqb, ne_eqb, eqb-true, eqb-false}
 use lib.ListN.{length}
@@ -14,12 +14,10 @@ use Rattle.bundle_layout.specs.Bundle.{file_at}
 use Rattle.bundle_layout.specs.Change.{files_after}
 use Rattle.gate_marks.specs.Gate.{Gate}
 use Rattle.gate_marks.specs.Marks.{full_marks}
-use Rattle.gate_calls.specs.Calls.{changed_marks}
 use Rattle.gate_calls.proofs.Demand3.{full-same, after-change}
 use Rattle.drawer_held.specs.Drawer.{drawer_fault, drawer_change_fault, drawer_after, drawer_made}
-use Rattle.drawer_held.proofs.Laws.{change-none}
 use Rattle.drawer_meaning.proofs.Kept.{files-after, layout-kept, after-length}
-use Rattle.drawer_calls.specs.Calls.{DrawerAnswer, drawer_answer, drawer_judged, drawer_changed}
+use Rattle.drawer_calls.specs.Calls.{drawer_answer, drawer_judged, drawer_changed}
 use Rattle.drawer_calls.specs.Sequence.{DrawerStep, DrawerState, drawer_stepped, after_drawer_steps}
 use Rattle.drawer_calls.proofs.Lent.{changed-well, changed-not}
 

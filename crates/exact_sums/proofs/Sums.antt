@@ -1,12 +1,12 @@
 -- Sums one term longer, how far they are from zero, and sums of sums.
 -- Assumes nothing.
 use Prim.Native.Nat.{ℕ, zero, suc, ◌+◌, ◌*◌, ◌≤◌, ◌<◌}
-use mathlib.Core.Path.{◌≡◌, refl, sym, ap, ◌∙◌}
-use mathlib.Core.List.{List, [], ◌∷◌, ◌++◌}
+use mathlib.Core.Path.{◌≡◌, refl}
+use mathlib.Core.List.{[]}
 use native.Mathlib.Numerals.{add-one}
 use native.Mathlib.Omega.{arith}
-use lib.IntN.{ℤ, pos, ◌+ℤ◌, nat_abs, +ℤ_idl, +ℤ_idr, +ℤ_assoc, +ℤ_comm}
-use Rattle.exact_sums.specs.Sums.{sum_to, sum_over}
+use lib.IntN.{ℤ, ◌+ℤ◌, nat_abs, +ℤ_idl, +ℤ_idr, +ℤ_assoc, +ℤ_comm}
+use Rattle.exact_sums.specs.Sums.{sum_to}
 use Rattle.exact_sums.proofs.Signed.{sum-within}
 
 pub sum-next : (f : ℕ → ℤ) (i : ℕ) → sum_to f (i + 1) ≡ sum_to f i +ℤ f i

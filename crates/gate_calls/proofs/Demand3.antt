@@ -20,7 +20,7 @@ use Rattle.bundle_layout.proofs.RoundTrip.{after-change as bundle-after, unchang
 use Rattle.gate_marks.specs.Gate.{Gate, marks_of, reads_file}
 use Rattle.gate_marks.specs.Marks.{mark_at, full_marks}
 use Rattle.gate_marks.proofs.Laws.{mark-keeps, mark-below}
-use Rattle.gate_calls.specs.Calls.{Answer, answer, changed_marks, judgement, accepted, answered, tried, change_made}
+use Rattle.gate_calls.specs.Calls.{answer, changed_marks, judgement, accepted, answered, tried, change_made}
 use Rattle.gate_calls.specs.Sequence.{Step, State, next, stepped, after}
 
 -- a set is judged from its files alone

@@ -1,16 +1,15 @@
 -- Which kinds the marks can be that a call judges, for any gate whose tables have 64 fields at most. So 99 is no mark of a call.
 -- Assumes nothing.
-use Prim.Native.Nat.{ℕ, ◌+◌, ◌^◌, ◌≤◌, ◌<◌}
+use Prim.Native.Nat.{ℕ, ◌≤◌, ◌<◌}
 use mathlib.Core.Path.{◌≡◌, refl, sym, ◌∙◌}
-use mathlib.Core.Bool.{Bool, true, false, cond, false≢true}
+use mathlib.Core.Bool.{true, false, false≢true}
 use mathlib.Core.List.{List}
 use native.Mathlib.Omega.{arith}
 use borrow.Author.Tests.{eqb-true, eq-eqb}
-use lib.ListN.{length}
 use lib.Dec.{eqb}
 use Rattle.json_bytes.proofs.Laws.{by-test}
 use Rattle.json_bytes.proofs.FaultKinds.{is_in, In}
-use Rattle.parts.specs.Files.{File, bytes_of}
+use Rattle.parts.specs.Files.{File}
 use Rattle.mark_numbers.specs.Marks.{Marks, mark_in, not_judged, fresh_marks}
 use Rattle.mark_numbers.proofs.Laws.{mark-of-marks}
 use Rattle.bundle_bytes.proofs.Laws.{start-end}
@@ -21,7 +20,7 @@ use Rattle.table_file.proofs.FaultKinds.{count_of}
 use Rattle.gate_marks.specs.Gate.{Gate, marks_of, reads_file}
 use Rattle.gate_marks.specs.Marks.{mark_at}
 use Rattle.gate_marks.proofs.MarkKinds.{mark_kinds, Small, mark-kinds}
-use Rattle.gate_calls.specs.Calls.{Answer, answer, judgement, accepted, answered, tried, change_made}
+use Rattle.gate_calls.specs.Calls.{Answer, judgement, accepted, answered, tried, change_made}
 use Rattle.gate_calls.proofs.Demand3.{full-mark, judged-again}
 
 -- of a gate whose marks have these kinds, where its files are small

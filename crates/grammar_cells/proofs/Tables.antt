@@ -15,8 +15,6 @@ use Rattle.json_bytes.specs.declared.Reading.TheVariants.{Whole, Fault}
 use Rattle.json_bytes.proofs.Laws.{by-test, inside}
 use Rattle.table_rows.specs.Rows.{Field}
 use Rattle.table_value.specs.Value.{opens, token_at, not_object_of, not_object_at}
-use Rattle.table_value.specs.declared.ValueRead.{ValueRead}
-use Rattle.table_value.specs.declared.ValueRead.TheVariants.{Held, Null, Bad}
 use Rattle.table_name.specs.Name.{first_in, next_after}
 use Rattle.table_name.specs.declared.Next.{Next}
 use Rattle.table_name.specs.declared.Next.TheVariants.{More, Ends, Neither}

@@ -34,7 +34,7 @@ use Rattle.grammar_machine.proofs.Machine.{value, literal, characters, Stack, a_
 use Rattle.grammar_machine.proofs.Language.{Words}
 use Rattle.grammar_machine.proofs.Complete.{in-range, outside, value-number}
 use Rattle.grammar_machine.proofs.Places.{drop-byte, At, push_at, become, swap_at}
-use Rattle.grammar_machine.proofs.Tokens.{Told, judged, retold, Answered, answered, literal-at}
+use Rattle.grammar_machine.proofs.Tokens.{Told, judged, Answered, answered, literal-at}
 use Rattle.grammar_numbers.proofs.Numbers.{number-at}
 use Rattle.grammar_files.proofs.Strings.{TextRead, text-behind, WrongHere, wrong-behind}
 

@@ -1,16 +1,16 @@
 -- What a caller needs of every reader: a whole reading ends within the file and after it began, and a fault's place lies
 -- within the file or at its length. Here of a literal; the other readers prove the same of theirs.
 -- Assumes nothing.
-use Prim.Native.Nat.{ℕ, zero, suc, ◌+◌, ◌≤◌, ◌<◌}
-use mathlib.Core.Path.{◌≡◌, refl, sym}
-use mathlib.Core.Bool.{Bool, true, false, cond}
+use Prim.Native.Nat.{ℕ, ◌+◌, ◌≤◌, ◌<◌}
+use mathlib.Core.Path.{◌≡◌, refl}
+use mathlib.Core.Bool.{Bool, true, false}
 use mathlib.Core.List.{List, [], ◌∷◌}
 use native.Mathlib.Omega.{arith}
 use borrow.Author.Tests.{eqb-true}
 use lib.ListN.{length, drop, length-drop}
 use lib.Dec.{eqb}
 use Rattle.json_bytes.specs.Ascii.{codes}
-use Rattle.json_bytes.specs.Reads.{byte_at, leading, spaces_end, is_space, spelled_at, literal_at}
+use Rattle.json_bytes.specs.Reads.{byte_at, spaces_end, is_space, spelled_at, literal_at}
 use Rattle.json_bytes.specs.declared.Reading.{Reading}
 use Rattle.json_bytes.specs.declared.Reading.TheVariants.{Whole, Fault}
 use Rattle.json_bytes.proofs.Laws.{inside, by-test, leading-bound}

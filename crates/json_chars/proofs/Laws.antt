@@ -1,14 +1,14 @@
 -- What a surrogate pair is made of, and an escape whose digits begin with two zeros.
 -- Assumes nothing.
-use Prim.Native.Nat.{ℕ, ◌+◌, ◌*◌, ◌≤◌, ◌<◌}
-use mathlib.Core.Path.{◌≡◌, refl, sym, ap, ◌∙◌}
+use Prim.Native.Nat.{ℕ, ◌+◌, ◌*◌, ◌<◌}
+use mathlib.Core.Path.{◌≡◌, ap}
 use mathlib.Core.Bool.{true}
 use mathlib.Core.List.{List}
 use native.Mathlib.Omega.{arith}
 use borrow.Author.Tests.{lt-ltb, lt-leb}
 use Rattle.json_bytes.specs.Reads.{byte_at, within}
 use Rattle.json_bytes.proofs.Laws.{both_left, both_right}
-use Rattle.json_chars.specs.Step.{hex_digit, digit_at, unit_at, is_pair, surrogates_joined, escaped_at}
+use Rattle.json_chars.specs.Step.{hex_digit, digit_at, unit_at, is_pair, surrogates_joined}
 use Rattle.json_chars.specs.declared.Step.TheVariants.{Char}
 use Rattle.json_chars.specs.declared.Unit16.TheVariants.{Hex}
 

@@ -22,7 +22,7 @@ use Rattle.json_date.specs.declared.Date.{Date}
 use Rattle.json_date.specs.declared.Date.TheVariants.{Day, NoDate}
 use Rattle.json_date.specs.Date.{is_day, all_digits_at, two_at, has_form, year_of, month_of, day_of, date_of}
 use Rattle.json_date.specs.Plain.{is_told, is_plain_date, is_two_of}
-use Rattle.json_date.proofs.Laws.{Digit, first-digit, second-digit, Form, form, no-form, lies_within, day-early}
+use Rattle.json_date.proofs.Laws.{Digit, first-digit, second-digit, form, no-form, lies_within, day-early}
 
 -- ---- the bytes from a place on, one by one
 up_to : ℕ → List ℕ → ℕ → ℕ → List ℕ

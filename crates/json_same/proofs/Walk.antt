@@ -4,12 +4,9 @@ use Prim.Native.Nat.{ℕ, ◌+◌, ◌-◌, ◌<◌, ◌≤◌}
 use mathlib.Core.Path.{◌≡◌, refl, sym, ◌∙◌}
 use mathlib.Core.Bool.{Bool, true, false, cond}
 use mathlib.Core.List.{List, [], ◌∷◌}
-use mathlib.Core.Logic.{inl, inr}
 use native.Mathlib.Numerals.{add-one}
 use native.Mathlib.Omega.{arith}
 use borrow.Author.Tests.{eq-eqb, ne_eqb, le-ltb, lt-ltb, eqb-true, eqb-false, leb-true, leb-false}
-use denote.Enum.Declared.{tag_of}
-use types.Run.{OneOf}
 use lib.ListN.{length, take, drop, drop_of_length-le, get_or-eq_default}
 use lib.Seq.{drop-cons}
 use lib.Dec.{leb, eqb, lit<}
@@ -19,7 +16,6 @@ use Rattle.json_chars.specs.Step.{step_at}
 use Rattle.json_chars.specs.Chars.{chars_from, chars_at}
 use Rattle.json_chars.specs.declared.Step.{Step}
 use Rattle.json_chars.specs.declared.Step.TheVariants.{Char, Close, Bad}
-use Rattle.json_chars.specs.contracts.Step.{the_type}
 use Rattle.json_chars.proofs.Bounds.{step-good, Good}
 use Rattle.json_chars.proofs.Plain.{closing-step}
 use Rattle.json_chars.proofs.Walk.{Left, Taken, take-char, take-close, take-bad, opened, unopened}

@@ -6,7 +6,6 @@ use Rattle.json_bytes.specs.Reads.{byte_at, within, leading}
 use Rattle.json_bytes.specs.declared.Reading.{Reading}
 use Rattle.json_bytes.specs.declared.Reading.TheVariants.{Whole, Fault}
 use Rattle.json_chars.specs.Step.{step_at}
-use Rattle.json_chars.specs.declared.Step.{Step}
 use Rattle.json_chars.specs.declared.Step.TheVariants.{Char, Close, Bad}
 use Rattle.json_bytes.proofs.Laws.{both_left, both_right, within-from, within-to}
 use Rattle.json_chars.proofs.Bounds.{step-good, Good}
@@ -15,7 +14,6 @@ use Rattle.json_text.specs.Run.{is_graphic, Run, run_end, edge_behind, in_words,
 use Rattle.json_text.specs.Text.{text_from, text_read_at, rule_broken, none, wrong_here, first_wrong, closes_at, wrong_from, wrong_at, text_read}
 use Rattle.json_text.specs.declared.TextType.{TextType}
 use Rattle.json_text.specs.declared.Wrong.{Wrong}
-use Rattle.json_text.specs.declared.TextRead.{TextRead}
 use Rattle.json_text.proofs.Spaces.{graphic-right, space-right}
 
 -- ---- the first of several wrong characters

@@ -1,17 +1,16 @@
 -- A string that has only bytes which are characters by themselves and break no rule: these are its characters, and it is
 -- read whole.
 -- Assumes nothing.
-use Rattle.std.proofs.Common.{◌≡◌, ℕ, ◌+◌, ◌-◌, ◌<◌, ◌≤◌, Bool, true, false, cond, eqb, ltb, List, length, take, drop, sym, refl, ap, ◌∙◌, arith, lit<, ltb-true, le-ltb, lt-ltb, eq-eqb, ne_eqb, eqb-true}
+use Rattle.std.proofs.Common.{◌≡◌, ℕ, ◌+◌, ◌-◌, ◌<◌, ◌≤◌, Bool, true, false, cond, eqb, ltb, List, length, take, drop, refl, arith, lit<, ltb-true, le-ltb, lt-ltb, eq-eqb, ne_eqb, eqb-true}
 use Rattle.json_bytes.specs.Reads.{byte_at}
 use Rattle.json_bytes.specs.declared.Reading.TheVariants.{Whole}
 use Rattle.json_bytes.proofs.Laws.{inside}
 use Rattle.json_chars.specs.Chars.{chars_at}
 use Rattle.json_chars.proofs.Plain.{closing-step, chars-plain}
 use Rattle.json_text.specs.Run.{Run, run_end, plain_end}
-use Rattle.json_text.specs.Text.{text_read_at, text_read, none}
+use Rattle.json_text.specs.Text.{text_read}
 use Rattle.json_text.specs.declared.TextType.{TextType}
 use Rattle.json_text.specs.declared.TextType.TheVariants.{Text}
-use Rattle.json_text.specs.declared.TextRead.{TextRead}
 use Rattle.json_text.proofs.Laws.{run_of, graphic-step, opened, along-end, take-close}
 
 module _ (s : List ℕ) (at : ℕ) where

@@ -7,7 +7,7 @@ use native.Mathlib.Omega.{arith}
 use lib.ListN.{length, get_or, set, length-set}
 use lib.Seq.{get_or-set_same, get_or-set_other}
 use Rattle.link_loops.specs.Walk.{Least, Unchained, Chained}
-use Rattle.link_loops.proofs.Turns.{same_or_not, less-or-not, above}
+use Rattle.link_loops.proofs.Turns.{same_or_not, above}
 use Rattle.link_loops.proofs.Lists.{at}
 
 module _ (from : List ℕ) where

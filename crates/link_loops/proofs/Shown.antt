@@ -2,20 +2,20 @@
 -- Assumes nothing.
 use Prim.Native.Nat.{ℕ, zero, suc, ◌+◌, ◌-◌, ◌≤◌, ◌<◌}
 use mathlib.Core.Path.{◌≡◌, refl, sym, ap, ◌∙◌}
-use mathlib.Core.Bool.{Bool, true, false, cond, ◌&&◌, true≢false}
+use mathlib.Core.Bool.{Bool, true, false, true≢false}
 use mathlib.Core.List.{List, [], ◌∷◌, ◌++◌}
 use native.Mathlib.Numerals.{add-one}
 use native.Mathlib.Omega.{arith}
 use borrow.Author.Tests.{eq-eqb, ne_eqb, le-leb, lt-leb, lt-ltb, le-ltb, ltb-true}
 use lib.ListN.{length, get_or, take, drop, length-append, length-drop, drop_of_length-le, replicate, length-replicate}
 use lib.Seq.{drop-cons, take_at, drop_at, get_or-take, length-take-le}
-use lib.Dec.{ltb, leb, eqb}
+use lib.Dec.{ltb}
 use Rattle.json_bytes.proofs.Laws.{both_left, both_right}
 use Rattle.mark_numbers.specs.Marks.{list_of}
 use Rattle.mark_numbers.proofs.Laws.{Filled, list_at, list_length}
 use Rattle.link_loops.specs.Loop.{IsLoop, ShowsRing}
 use Rattle.link_loops.specs.Links.{link_leads, all_below, are_links, ShowsLinks}
-use Rattle.link_loops.specs.Walk.{Unchained, Chained, Unwalked, BlankColumns, RingAt, WalkEnded}
+use Rattle.link_loops.specs.Walk.{Chained, Unwalked, BlankColumns, RingAt, WalkEnded}
 use Rattle.link_loops.proofs.Lists.{at}
 
 module _ (from to way : List ℕ) (start end : ℕ) (ended : WalkEnded from to way start end) where

@@ -23,7 +23,7 @@ use Rattle.rule_reason.specs.declared.Searched.{Searched}
 use Rattle.rule_reason.specs.declared.Searched.TheVariants.{In, Nowhere}
 use Rattle.rule_reason.specs.Reason.{searched_in}
 use Rattle.gate_marks.specs.Gate.{Gate, rule_of_mark}
-use Rattle.gate_marks.specs.Marks.{file_mark, table_of, rule_mark, rule_mark_at, mark_at}
+use Rattle.gate_marks.specs.Marks.{rule_mark, rule_mark_at, mark_at}
 use Rattle.reason.specs.Reason.{shown_of, broken_by, told_of, reason_at}
 
 abbrev mark_numbers : Mark → List ℕ

@@ -1,16 +1,16 @@
 -- The cells of a record, and the first breaking record: three laws that serve every rule.
 -- Assumes nothing.
-use Prim.Native.Nat.{ℕ, zero, suc, ◌+◌, ◌*◌, ◌-◌, ◌≤◌, ◌<◌}
-use mathlib.Core.Path.{◌≡◌, refl, sym, ap, ◌∙◌}
+use Prim.Native.Nat.{ℕ, suc, ◌+◌, ◌*◌, ◌-◌, ◌≤◌, ◌<◌}
+use mathlib.Core.Path.{◌≡◌, refl, sym}
 use mathlib.Core.Bool.{Bool, true, false, cond, ◌&&◌}
 use mathlib.Core.List.{List}
 use native.Mathlib.Nat.{mul-le-mul_left, mul-le-mul_right, le_trans}
 use native.Mathlib.Numerals.{add-one}
 use native.Mathlib.Omega.{arith}
 use borrow.Author.Tests.{le-leb, lt-leb}
-use lib.ListN.{length, get_or}
+use lib.ListN.{get_or}
 use lib.Dec.{leb}
-use Rattle.rule_cells.specs.Cells.{cell_of, start_of, is_given, first_from, first_that}
+use Rattle.rule_cells.specs.Cells.{cell_of, first_from}
 
 -- records and their cells are few, so that a cell's number is small
 pub product_small : (r w : ℕ) → r ≤ 4096 → w ≤ 128 → r * w ≤ 524288

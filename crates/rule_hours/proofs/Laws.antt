@@ -12,7 +12,7 @@ use borrow.Author.Tests.{ltb-true, ltb-false, not-false}
 use Rattle.json_number.specs.declared.Sign.{Sign}
 use Rattle.json_number.specs.declared.Sign.TheVariants.{Zero, Above, Below}
 use Rattle.rule_cells.proofs.First.{first-is-none}
-use Rattle.rule_cells.specs.Cells.{Table, table, is_given, sign_in, first_from, first_that}
+use Rattle.rule_cells.specs.Cells.{Table, table, is_given, sign_in}
 use Rattle.rule_hours.specs.Hours.{field_from, first_field_that, any_field, below_zero, above_zero, lies_below, is_above, is_null, breaks, none_below_rule, some_above_rule, together_rule}
 use Rattle.rule_hours.specs.declared.Shape.TheVariants.{SomeBelow, NoneAbove, Mixed}
 

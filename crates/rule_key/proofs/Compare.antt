@@ -3,16 +3,12 @@
 use Prim.Native.Nat.{ℕ, ◌+◌, ◌-◌, ◌≤◌, ◌<◌}
 use mathlib.Core.Path.{◌≡◌, refl, sym, ◌∙◌}
 use mathlib.Core.Bool.{Bool, true, false}
-use mathlib.Core.List.{List, [], ◌∷◌}
-use mathlib.Core.Logic.{inl, inr}
+use mathlib.Core.List.{List, []}
 use native.Mathlib.Nat.{sub-zero}
 use native.Mathlib.Omega.{arith}
 use borrow.Author.Tests.{lt-ltb, le-ltb}
-use denote.Enum.Declared.{tag_of}
-use types.Run.{OneOf}
 use Rattle.json_number.specs.declared.Integer.{Integer}
 use Rattle.json_number.specs.declared.Integer.TheVariants.{Is, Fraction, TooLarge}
-use Rattle.json_number.specs.contracts.Integer.{the_type}
 use Rattle.json_date.specs.declared.Date.{Date}
 use Rattle.rule_cells.specs.Cells.{Table, table, text_of, same_text, integer_in, date_in, first_from, first_that}
 use Rattle.rule_cells.proofs.Laws.{search-hits, search-goes-on, search-ends}

@@ -2,7 +2,7 @@
 -- Assumes nothing.
 use Prim.Native.Nat.{ℕ, zero, suc, ◌+◌, ◌-◌, ◌<◌, ◌≤◌}
 use mathlib.Core.Path.{◌≡◌, refl, sym, ap, ◌∙◌}
-use mathlib.Core.Bool.{Bool, true, false, not, ◌&&◌}
+use mathlib.Core.Bool.{true, false, not, ◌&&◌}
 use mathlib.Core.Logic.{◌↔◌}
 use native.Mathlib.Decide.{ℕ_discrete}
 use native.Mathlib.Numerals.{add-one}
@@ -11,7 +11,7 @@ use borrow.Author.Tests.{eq-eqb, ne_eqb, eqb-true, lt-ltb, ltb-true, le-leb, leb
 use lib.Dec.{ltb, leb, eqb}
 use Rattle.json_bytes.proofs.Laws.{both_left, both_right}
 use Rattle.rule_cells.specs.Cells.{Table, is_given, same_text}
-use Rattle.rule_outline.specs.Outline.{level_one, level_of, parent_by, parent_of, some_of}
+use Rattle.rule_outline.specs.Outline.{level_one, level_of, parent_of, some_of}
 use Rattle.rule_outline.proofs.Parents.{parent-is-nearest, nearest-is-parent}
 use Rattle.rule_outline.proofs.Rules.{some-there, some-is-there}
 use Rattle.rule_tree.specs.Tree.{first_breaks, next_breaks, tree_level_breaks, tree_level_rule, tree_parent_breaks, with_parent, tree_parent_rule, has_child, names_a_parent, leaf_breaks, leaf_rule}

@@ -1,15 +1,13 @@
 -- The hints of names: what is read of them, and what a name puts there.
 -- Assumes nothing.
-use Prim.Native.Nat.{ℕ, zero, suc, ◌+◌, ◌*◌, ◌%◌, ◌-◌, ◌≤◌, ◌<◌}
+use Prim.Native.Nat.{ℕ, zero, suc, ◌+◌, ◌%◌, ◌-◌, ◌≤◌, ◌<◌}
 use mathlib.Core.Path.{◌≡◌, refl, sym, ap, ◌∙◌}
 use mathlib.Core.List.{List, [], ◌∷◌}
 use native.Mathlib.Nat.{not-suc-le-zero, le_of_suc-le-suc}
 use native.Mathlib.Numerals.{add-one}
-use native.Mathlib.Omega.{arith}
 use borrow.Author.Tests.{lt-ltb, le-ltb}
 use lib.ListN.{length, get_or, set, get_or-eq_default as get_or_past}
 use lib.Seq.{set_out}
-use lib.Dec.{ltb}
 use Rattle.json_bytes.specs.Reads.{byte_at}
 use Rattle.parts.specs.Part.{part_of}
 use Rattle.table_rows.specs.Rows.{name_start, name_end, field_name_at}

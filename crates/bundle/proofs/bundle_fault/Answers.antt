@@ -2,7 +2,6 @@
 use mathlib.Core.Path.{sym, ◌∙◌}
 use mathlib.Core.Bool.{true, false}
 use native.Mathlib.Omega.{arith}
-use borrow.Author.Rules.{rules}
 use Rattle.bundle.proofs.Laws.{is-long, is-short, count-wrong, layout-decides}
 use Rattle.bundle.proofs.bundle_fault.Goals as goal
 

@@ -1,5 +1,4 @@
 -- `bundle::file_part` meets its contract: an empty part for a refusal, else the file's.
-use borrow.Author.Rules.{rules}
 use borrow.Author.Tests.{eq-eqb, ne_eqb}
 use Rattle.bundle_layout.specs.Bundle.{part_asked}
 use Rattle.bundle.proofs.file_part.Goals as goal

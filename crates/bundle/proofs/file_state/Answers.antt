@@ -1,6 +1,5 @@
 -- `bundle::file_state` meets its contract: the tests that led to each answer decide the definition.
 use mathlib.Core.Path.{sym, ◌∙◌}
-use borrow.Author.Rules.{rules}
 use borrow.Author.Tests.{eq-eqb, ne_eqb}
 use Rattle.bundle.specs.Answers.{state_asked}
 use Rattle.bundle.proofs.file_state.Goals as goal

@@ -1,11 +1,10 @@
 -- `bundle::is_laid_out` meets its contract: what is left to see at the loop's head gives what the whole gives.
-use Prim.Native.Nat.{◌-◌, ◌≤◌}
-use mathlib.Core.Path.{◌≡◌, refl, sym, ◌∙◌}
+use Prim.Native.Nat.{◌-◌}
+use mathlib.Core.Path.{refl, sym, ◌∙◌}
 use native.Mathlib.Nat.{sub-zero}
 use native.Mathlib.Omega.{arith}
-use borrow.Author.Rules.{rules}
 use Rattle.bundle_bytes.proofs.Laws.{bytes-known}
-use Rattle.bundle_layout.specs.Bundle.{header_size, end_of, laid_out, laid_out_from}
+use Rattle.bundle_layout.specs.Bundle.{header_size, end_of, laid_out}
 use Rattle.bundle.proofs.Laws.{length-small, end-next, end-small, laid-right, laid-wrong, laid-all}
 use Rattle.bundle.proofs.is_laid_out.Goals as goal
 

@@ -1,5 +1,4 @@
 -- `bundle::is_omitted` meets its contract: both numbers are 0.
-use borrow.Author.Rules.{rules}
 use borrow.Author.Tests.{eq-eqb, ne_eqb}
 use Rattle.bundle_layout.specs.Bundle.{is_omitted}
 use Rattle.bundle.proofs.is_omitted.Goals as goal

@@ -1,7 +1,6 @@
 -- `bundle::is_present_after` meets its contract: another file is there as in the bundle, the changed one by what it is now.
 use mathlib.Core.Path.{sym, ap, ◌∙◌}
 use mathlib.Core.Bool.{not}
-use borrow.Author.Rules.{rules}
 use Rattle.parts.specs.Files.{is_present}
 use Rattle.bundle.proofs.Laws.{file-same, file-other, shown-present, shown-new}
 use Rattle.bundle.proofs.is_present_after.Goals as goal

@@ -1,5 +1,4 @@
 -- `bundle::length_after` meets its contract: what the two parts differ by.
-use borrow.Author.Rules.{rules}
 use Rattle.bundle.proofs.Laws.{part-within, length-new, length_without}
 use Rattle.bundle.proofs.length_after.Goals as goal
 

@@ -1,5 +1,4 @@
 -- `bundle::length_at` meets its contract.
-use borrow.Author.Rules.{rules}
 use Rattle.bundle_layout.specs.Bundle.{length_at}
 use Rattle.bundle.proofs.length_at.Goals as goal
 

@@ -1,5 +1,4 @@
 -- `bundle::lookup_fault` meets its contract: the tests that led to each answer decide the definition.
-use borrow.Author.Rules.{rules}
 use borrow.Author.Tests.{eq-eqb, ne_eqb, lt-ltb, le-ltb}
 use Rattle.bundle_layout.specs.Bundle.{lookup_fault}
 use Rattle.bundle.proofs.lookup_fault.Goals as goal

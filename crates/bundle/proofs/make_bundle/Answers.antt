@@ -1,6 +1,5 @@
 -- `bundle::make_bundle` meets its contract: the header and behind it the files are the bundle.
 use native.Mathlib.Omega.{arith}
-use borrow.Author.Rules.{rules}
 use Rattle.bundle.proofs.Laws.{both-written, made-refused, made-small, made-full, made-room, made-done}
 use Rattle.bundle.proofs.make_bundle.Goals as goal
 

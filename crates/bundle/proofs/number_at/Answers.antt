@@ -1,5 +1,4 @@
 -- `bundle::number_at` meets its contract: past the end all bytes count 0.
-use borrow.Author.Rules.{rules}
 use Rattle.bundle.proofs.Laws.{number_past}
 use Rattle.bundle.proofs.number_at.Goals as goal
 

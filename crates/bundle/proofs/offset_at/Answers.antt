@@ -1,5 +1,4 @@
 -- `bundle::offset_at` meets its contract.
-use borrow.Author.Rules.{rules}
 use Rattle.bundle_layout.specs.Bundle.{offset_at}
 use Rattle.bundle.proofs.offset_at.Goals as goal
 

@@ -1,6 +1,5 @@
 -- `bundle::part_after` meets its contract: another file's part of the bundle, or the new bytes.
 use mathlib.Core.Path.{sym, ap, ◌∙◌}
-use borrow.Author.Rules.{rules}
 use Rattle.parts.specs.Files.{bytes_of, new_file}
 use Rattle.bundle.proofs.Laws.{file-same, file-other}
 use Rattle.bundle.proofs.part_after.Goals as goal

@@ -1,7 +1,6 @@
 -- `bundle::part_at` meets its contract: a file's numbers are small enough that its end is a place.
 use mathlib.Core.Path.{◌∙◌}
 use native.Mathlib.Omega.{arith}
-use borrow.Author.Rules.{rules}
 use Rattle.bundle_bytes.proofs.Laws.{bytes-known}
 use Rattle.bundle.proofs.Laws.{offset-small, length-small, part-read}
 use Rattle.bundle.proofs.part_at.Goals as goal

@@ -1,5 +1,4 @@
 -- `bundle::put_entry` meets its contract: two numbers, one behind the other.
-use borrow.Author.Rules.{rules}
 use Rattle.bundle.proofs.Laws.{entry-written}
 use Rattle.bundle.proofs.put_entry.Goals as goal
 

@@ -1,13 +1,7 @@
 -- `bundle::put_files` meets its contract: behind the header's place one file more with each turn.
-use Prim.Native.Nat.{◌+◌, ◌-◌, ◌≤◌}
-use mathlib.Core.Path.{◌≡◌, refl, ◌∙◌}
-use mathlib.Core.List.{◌++◌}
+use Prim.Native.Nat.{◌-◌}
+use mathlib.Core.Path.{refl, ◌∙◌}
 use native.Mathlib.Omega.{arith}
-use borrow.Author.Rules.{rules}
-use lib.ListN.{length, take, drop}
-use Rattle.parts.specs.Files.{new_file}
-use Rattle.bundle_bytes.specs.Pieces.{joined, piece_start}
-use Rattle.bundle_layout.specs.Bundle.{header_size, pieces_of}
 use Rattle.bundle_layout.specs.Change.{files_after}
 use Rattle.bundle.proofs.Laws.{header-fits, file-fits, end-begins, end-turn, files-begin, files-turn, files-end}
 use Rattle.bundle.proofs.put_files.Goals as goal

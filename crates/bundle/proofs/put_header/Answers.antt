@@ -1,15 +1,8 @@
 -- `bundle::put_header` meets its contract: the count, and behind it one entry more with each turn.
-use Prim.Native.Nat.{◌+◌, ◌*◌, ◌-◌, ◌≤◌}
-use mathlib.Core.Path.{◌≡◌, refl, ◌∙◌}
-use mathlib.Core.List.{◌++◌}
+use Prim.Native.Nat.{◌-◌}
+use mathlib.Core.Path.{refl, ◌∙◌}
 use native.Mathlib.Omega.{arith}
-use borrow.Author.Rules.{rules}
-use lib.ListN.{length, drop}
-use Rattle.parts.specs.Files.{new_file}
-use Rattle.bundle_bytes.specs.Pieces.{piece_start}
-use Rattle.bundle_layout.specs.Bundle.{header_size, pieces_of}
-use Rattle.bundle_layout.specs.Change.{files_after}
-use Rattle.bundle.proofs.Laws.{header-fits, file-fits, end-begins, end-turn, fronts, header-begins, header-turn, header-ends}
+use Rattle.bundle.proofs.Laws.{header-fits, file-fits, end-begins, end-turn, header-begins, header-turn, header-ends}
 use Rattle.bundle.proofs.put_header.Goals as goal
 
 pub overflow_cast-n : goal.overflow_cast-n

@@ -1,15 +1,13 @@
 -- `bundle::put_header` meets its contract: the count, and behind it one entry more with each turn.
 use Prim.Native.Nat.{◌+◌, ◌*◌, ◌-◌, ◌≤◌}
-use mathlib.Core.Path.{◌≡◌, refl, ◌∙◌}
+use mathlib.Core.Path.{◌≡◌}
 use mathlib.Core.List.{◌++◌}
-use native.Mathlib.Omega.{arith}
-use borrow.Author.Rules.{rules}
 use lib.ListN.{length, drop}
 use Rattle.parts.specs.Files.{new_file}
 use Rattle.bundle_bytes.specs.Pieces.{piece_start}
 use Rattle.bundle_layout.specs.Bundle.{header_size, pieces_of}
 use Rattle.bundle_layout.specs.Change.{files_after}
-use Rattle.bundle.proofs.Laws.{header-fits, file-fits, end-begins, end-turn, fronts, header-begins, header-turn, header-ends}
+use Rattle.bundle.proofs.Laws.{fronts}
 use Rattle.bundle.proofs.put_header.Given as goal
 
 abbrev pub invariant-loop-i : goal.invariant-loop-i

@@ -1,6 +1,5 @@
 -- `bundle::stands_right` meets its contract, file by file.
 use mathlib.Core.Path.{sym, ◌∙◌}
-use borrow.Author.Rules.{rules}
 use Rattle.bundle.proofs.stands_right.Goals as goal
 
 pub returns-then-is_omitted : goal.returns-then-is_omitted

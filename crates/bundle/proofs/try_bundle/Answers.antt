@@ -1,6 +1,5 @@
 -- `bundle::try_bundle` meets its contract: the tests that led to each answer decide the definition.
 use mathlib.Core.Path.{sym, ◌∙◌}
-use borrow.Author.Rules.{rules}
 use borrow.Author.Tests.{eq-eqb, ne_eqb, lt-ltb, le-ltb}
 use Rattle.bundle_layout.specs.Change.{try_fault}
 use Rattle.bundle_layout.proofs.Laws.{lookup-none}

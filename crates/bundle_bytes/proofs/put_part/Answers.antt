@@ -1,9 +1,9 @@
 -- `bundle_bytes::put_part` meets its contract: after each turn one byte more of the part is written over the others.
-use Prim.Native.Nat.{◌-◌, ◌≤◌}
-use mathlib.Core.Path.{◌≡◌, refl, ◌∙◌}
+use Prim.Native.Nat.{◌-◌}
+use mathlib.Core.Path.{refl, ◌∙◌}
 use native.Mathlib.Omega.{arith}
-use lib.ListN.{length, length-set}
-use lib.Seq.{paste, paste-zero}
+use lib.ListN.{length-set}
+use lib.Seq.{paste-zero}
 use Rattle.bundle_bytes.proofs.Laws.{written_none, written-whole, pasted-more}
 use Rattle.bundle_bytes.proofs.put_part.Goals as goal
 

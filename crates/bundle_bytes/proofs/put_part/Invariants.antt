@@ -1,10 +1,8 @@
 -- `bundle_bytes::put_part` meets its contract: after each turn one byte more of the part is written over the others.
 use Prim.Native.Nat.{◌-◌, ◌≤◌}
-use mathlib.Core.Path.{◌≡◌, refl, ◌∙◌}
-use native.Mathlib.Omega.{arith}
-use lib.ListN.{length, length-set}
-use lib.Seq.{paste, paste-zero}
-use Rattle.bundle_bytes.proofs.Laws.{written_none, written-whole, pasted-more}
+use mathlib.Core.Path.{◌≡◌}
+use lib.ListN.{length}
+use lib.Seq.{paste}
 use Rattle.bundle_bytes.proofs.put_part.Given as goal
 
 abbrev pub invariant-loop-i : goal.invariant-loop-i

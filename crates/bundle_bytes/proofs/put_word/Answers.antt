@@ -2,7 +2,6 @@
 use native.Mathlib.Omega.{arith}
 use lib.ListN.{set}
 use lib.Seq.{lt-length-set}
-use borrow.Author.Rules.{rules}
 use Rattle.bundle_bytes.specs.Words.{word_of}
 use Rattle.bundle_bytes.proofs.Laws.{written_none, word-stored}
 use Rattle.bundle_bytes.proofs.put_word.Goals as goal

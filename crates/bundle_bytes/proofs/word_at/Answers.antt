@@ -1,5 +1,4 @@
 -- `bundle_bytes::word_at` meets its contract: the bytes are read one by one, and past the end all of them count 0.
-use borrow.Author.Rules.{rules}
 use Rattle.bundle_bytes.proofs.Laws.{word-past, word_read}
 use Rattle.bundle_bytes.proofs.word_at.Goals as goal
 

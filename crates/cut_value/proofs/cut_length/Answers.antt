@@ -1,5 +1,4 @@
 -- `cut_value::cut_length` meets its contract.
-use borrow.Author.Rules.{rules}
 use borrow.Author.Tests.{le-leb, lt-leb}
 use Rattle.cut_value.specs.Cut.{cut_length}
 use Rattle.cut_value.proofs.cut_length.Goals as goal

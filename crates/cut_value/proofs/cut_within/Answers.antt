@@ -1,6 +1,5 @@
 -- `cut_value::cut_within` meets its contract.
 use mathlib.Core.Path.{sym, ◌∙◌}
-use borrow.Author.Rules.{rules}
 use Rattle.cut_value.specs.Cut.{cut_within}
 use Rattle.cut_value.proofs.cut_within.Goals as goal
 

@@ -1,7 +1,6 @@
 -- `cut_value::starts_at` meets its contract.
 use mathlib.Core.Path.{ap, ◌∙◌}
 use mathlib.Core.Bool.{not}
-use borrow.Author.Rules.{rules}
 use Rattle.text_place.specs.Place.{is_continuation, is_character}
 use Rattle.cut_value.proofs.starts_at.Goals as goal
 

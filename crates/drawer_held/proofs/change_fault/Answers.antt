@@ -1,6 +1,5 @@
 -- `drawer_held::change_fault` meets its contract: the tests that led to each answer decide the definition.
 use mathlib.Core.Path.{sym, ◌∙◌}
-use borrow.Author.Rules.{rules}
 use Rattle.parts.specs.Files.{new_file}
 use Rattle.drawer_held.proofs.Laws.{change-refused, change-full, change-fine}
 use Rattle.drawer_held.proofs.change_fault.Goals as goal

@@ -1,7 +1,6 @@
 -- `drawer_held::drawer_fault` meets its contract.
 use Prim.Native.Nat.{ℕ}
 use mathlib.Core.Path.{sym, ap, ◌∙◌}
-use borrow.Author.Rules.{rules}
 use lib.ListN.{length-replicate}
 use Rattle.drawer_layout.specs.Places.{list_of}
 use Rattle.drawer_held.specs.Drawer.{header_number}

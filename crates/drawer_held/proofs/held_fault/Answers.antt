@@ -1,5 +1,4 @@
 -- `drawer_held::held_fault` meets its contract: the tests that led to each answer decide the definition.
-use borrow.Author.Rules.{rules}
 use Rattle.drawer_held.proofs.Laws.{held-refused, held-fine, held-over}
 use Rattle.drawer_held.proofs.held_fault.Goals as goal
 

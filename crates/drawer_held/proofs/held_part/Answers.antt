@@ -1,5 +1,4 @@
 -- `drawer_held::held_part` meets its contract: the tests that led to each answer decide the definition.
-use borrow.Author.Rules.{rules}
 use Rattle.drawer_held.proofs.Laws.{part-refused, part-there}
 use Rattle.drawer_held.proofs.held_part.Goals as goal
 

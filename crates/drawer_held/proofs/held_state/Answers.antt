@@ -1,6 +1,5 @@
 -- `drawer_held::held_state` meets its contract: the tests that led to each answer decide the definition.
 use mathlib.Core.Path.{sym, ◌∙◌}
-use borrow.Author.Rules.{rules}
 use borrow.Author.Tests.{ne_eqb, eq-eqb}
 use Rattle.drawer_held.specs.Drawer.{state_held}
 use Rattle.drawer_held.proofs.held_state.Goals as goal

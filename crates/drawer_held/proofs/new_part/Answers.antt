@@ -1,5 +1,4 @@
 -- `drawer_held::new_part` meets its contract.
-use borrow.Author.Rules.{rules}
 use Rattle.parts.specs.Files.{bytes_of, new_file}
 use Rattle.drawer_held.proofs.new_part.Goals as goal
 

@@ -1,12 +1,9 @@
 -- `drawer_held::read_numbers` meets its contract.
-use Prim.Native.Nat.{◌-◌, ◌≤◌}
-use mathlib.Core.Path.{◌≡◌, refl, ◌∙◌}
+use Prim.Native.Nat.{◌-◌}
+use mathlib.Core.Path.{refl, ◌∙◌}
 use native.Mathlib.Omega.{arith}
-use lib.ListN.{length}
-use borrow.Author.Rules.{rules}
-use Rattle.drawer_held.proofs.Laws.{Filled, fill_start, fill-turn, fill_end, number_read}
+use Rattle.drawer_held.proofs.Laws.{fill_start, fill-turn, fill_end, number_read}
 use lib.ListN.{length-set}
-use Rattle.drawer_held.specs.Drawer.{header_number}
 use Rattle.drawer_held.proofs.Laws.{first_small}
 use Rattle.drawer_held.proofs.read_numbers.Goals as goal
 

@@ -1,11 +1,9 @@
 -- `drawer_layout::first_in_way` meets its contract.
-use Prim.Native.Nat.{ℕ, ◌+◌, ◌-◌, ◌≤◌, ◌<◌}
-use mathlib.Core.Path.{◌≡◌, refl, sym, ap, ◌∙◌}
+use Prim.Native.Nat.{◌-◌}
+use mathlib.Core.Path.{refl}
 use native.Mathlib.Omega.{arith}
-use lib.ListN.{length, take, drop, get_or}
-use borrow.Author.Rules.{rules}
 use mathlib.Core.Bool.{true}
-use Rattle.drawer_layout.specs.Places.{is_in_way, is_free}
+use Rattle.drawer_layout.specs.Places.{is_free}
 use Rattle.drawer_layout.proofs.Laws.{way-hit, way_next, way_end}
 use Rattle.drawer_layout.proofs.first_in_way.Reads as reads
 use Rattle.drawer_layout.proofs.first_in_way.Lts as lts

@@ -1,10 +1,7 @@
 -- `drawer_layout::lowest_gap` meets its contract.
-use Prim.Native.Nat.{ℕ, ◌+◌, ◌-◌, ◌≤◌, ◌<◌}
-use mathlib.Core.Path.{◌≡◌, refl, sym, ap, ◌∙◌}
+use Prim.Native.Nat.{◌-◌}
 use native.Mathlib.Omega.{arith}
-use lib.ListN.{length, take, drop, get_or}
-use borrow.Author.Rules.{rules}
-use Rattle.drawer_layout.proofs.Laws.{Gap, gap-start, gap-none, gap_at, gap-turn, gap-grows}
+use Rattle.drawer_layout.proofs.Laws.{gap-start, gap-none, gap_at, gap-turn, gap-grows}
 use Rattle.bundle_layout.specs.Bundle.{header_size}
 use Rattle.drawer_layout.proofs.lowest_gap.Reads as reads
 use Rattle.drawer_layout.proofs.lowest_gap.Lts as lts

@@ -1,9 +1,5 @@
 -- `drawer_layout::share_byte` meets its contract.
-use Prim.Native.Nat.{ℕ, ◌+◌, ◌-◌, ◌≤◌, ◌<◌}
-use mathlib.Core.Path.{◌≡◌, refl, sym, ap, ◌∙◌}
-use native.Mathlib.Omega.{arith}
-use lib.ListN.{length, take, drop, get_or}
-use borrow.Author.Rules.{rules}
+use Prim.Native.Nat.{◌-◌}
 use Rattle.drawer_layout.proofs.Laws.{share-empty, share-other-empty, share-below, share-last}
 use Rattle.drawer_layout.proofs.share_byte.Reads as reads
 use Rattle.drawer_layout.proofs.share_byte.Lts as lts

@@ -1,11 +1,6 @@
 -- `drawer_layout::stand_apart` meets its contract.
-use Prim.Native.Nat.{ℕ, ◌+◌, ◌-◌, ◌≤◌, ◌<◌}
-use mathlib.Core.Path.{◌≡◌, refl, sym, ap, ◌∙◌}
-use native.Mathlib.Omega.{arith}
-use lib.ListN.{length, take, drop, get_or}
-use borrow.Author.Rules.{rules}
-use Rattle.drawer_layout.proofs.Laws.{apart-outside, apart-met, apart_next}
-use borrow.Author.Tests.{not-true, not-false}
+use Prim.Native.Nat.{◌-◌, ◌≤◌}
+use mathlib.Core.Path.{◌≡◌}
 use mathlib.Core.Bool.{true}
 use Rattle.drawer_layout.specs.Places.{stand_apart}
 use Rattle.drawer_layout.proofs.stand_apart.Reads as reads

@@ -1,9 +1,5 @@
 -- `drawer_layout::stands_inside` meets its contract.
-use Prim.Native.Nat.{ℕ, ◌+◌, ◌-◌, ◌≤◌, ◌<◌}
-use mathlib.Core.Path.{◌≡◌, refl, sym, ap, ◌∙◌}
-use native.Mathlib.Omega.{arith}
-use lib.ListN.{length, take, drop, get_or}
-use borrow.Author.Rules.{rules}
+use Prim.Native.Nat.{◌-◌}
 use Rattle.drawer_layout.proofs.Laws.{inside-by, inside-not, inside-zero}
 use Rattle.drawer_layout.proofs.stands_inside.Reads as reads
 use Rattle.drawer_layout.proofs.stands_inside.Lts as lts

@@ -1,9 +1,5 @@
 -- `drawer_moves::is_next` meets its contract.
-use Prim.Native.Nat.{ℕ, ◌+◌, ◌-◌, ◌≤◌, ◌<◌}
-use mathlib.Core.Path.{◌≡◌, refl, sym, ap, ◌∙◌}
-use native.Mathlib.Omega.{arith}
-use lib.ListN.{length, take, drop, get_or}
-use borrow.Author.Rules.{rules}
+use Prim.Native.Nat.{◌-◌}
 use Rattle.drawer_moves.proofs.Moves.{next-empty, next-early, next-first, next-better}
 use Rattle.drawer_moves.proofs.is_next.Reads as reads
 use Rattle.drawer_moves.proofs.is_next.Lts as lts

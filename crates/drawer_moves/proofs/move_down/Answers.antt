@@ -1,9 +1,6 @@
 -- `drawer_moves::move_down` meets its contract.
-use Prim.Native.Nat.{ℕ, ◌+◌, ◌-◌, ◌≤◌, ◌<◌}
-use mathlib.Core.Path.{◌≡◌, refl, sym, ap, ◌∙◌}
-use native.Mathlib.Omega.{arith}
-use lib.ListN.{length, take, drop, get_or}
-use borrow.Author.Rules.{rules}
+use Prim.Native.Nat.{◌-◌}
+use mathlib.Core.Path.{sym, ◌∙◌}
 use Rattle.drawer_moves.proofs.Moves.{moved-so, moved-not}
 use Rattle.drawer_moves.proofs.move_down.Reads as reads
 use Rattle.drawer_moves.proofs.move_down.Lts as lts

@@ -1,11 +1,7 @@
 -- `drawer_moves::move_files` meets its contract.
-use Prim.Native.Nat.{ℕ, ◌+◌, ◌-◌, ◌≤◌, ◌<◌}
-use mathlib.Core.Path.{◌≡◌, refl, sym, ap, ◌∙◌}
+use Prim.Native.Nat.{◌-◌}
 use native.Mathlib.Omega.{arith}
-use lib.ListN.{length, take, drop, get_or}
-use borrow.Author.Rules.{rules}
 use Rattle.drawer_moves.proofs.Moves.{moves-start, move-fits, moves-turn, moves-end}
-use Rattle.drawer_moves.specs.Next.{Moving}
 use Rattle.drawer_layout.proofs.Laws.{laid}
 use Rattle.bundle_layout.specs.Bundle.{header_size}
 use Rattle.drawer_moves.proofs.move_files.Reads as reads

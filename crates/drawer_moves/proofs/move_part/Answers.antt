@@ -1,12 +1,11 @@
 -- `drawer_moves::move_part` meets its contract.
-use Prim.Native.Nat.{ℕ, ◌+◌, ◌-◌, ◌≤◌, ◌<◌}
-use mathlib.Core.Path.{◌≡◌, refl, sym, ap, ◌∙◌}
+use Prim.Native.Nat.{◌-◌}
+use mathlib.Core.Path.{refl, ◌∙◌}
 use native.Mathlib.Omega.{arith}
-use lib.ListN.{length, take, drop, get_or}
-use borrow.Author.Rules.{rules}
+use lib.ListN.{take, drop}
 use Rattle.drawer_moves.proofs.Moves.{move-turn, move-whole}
 use lib.ListN.{length-set}
-use lib.Seq.{paste, paste-zero}
+use lib.Seq.{paste-zero}
 use Rattle.drawer_moves.proofs.move_part.Reads as reads
 use Rattle.drawer_moves.proofs.move_part.Lts as lts
 use Rattle.drawer_moves.proofs.move_part.Goals as goal

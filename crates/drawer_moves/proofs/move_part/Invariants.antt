@@ -1,12 +1,8 @@
 -- `drawer_moves::move_part` meets its contract.
-use Prim.Native.Nat.{ℕ, ◌+◌, ◌-◌, ◌≤◌, ◌<◌}
-use mathlib.Core.Path.{◌≡◌, refl, sym, ap, ◌∙◌}
-use native.Mathlib.Omega.{arith}
-use lib.ListN.{length, take, drop, get_or}
-use borrow.Author.Rules.{rules}
-use Rattle.drawer_moves.proofs.Moves.{move-turn, move-whole}
-use lib.ListN.{length-set}
-use lib.Seq.{paste, paste-zero}
+use Prim.Native.Nat.{◌-◌, ◌≤◌}
+use mathlib.Core.Path.{◌≡◌}
+use lib.ListN.{length, take, drop}
+use lib.Seq.{paste}
 use Rattle.drawer_moves.proofs.move_part.Reads as reads
 use Rattle.drawer_moves.proofs.move_part.Lts as lts
 use Rattle.drawer_moves.proofs.move_part.Given as goal

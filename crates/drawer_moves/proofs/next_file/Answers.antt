@@ -1,11 +1,8 @@
 -- `drawer_moves::next_file` meets its contract.
-use Prim.Native.Nat.{ℕ, ◌+◌, ◌-◌, ◌≤◌, ◌<◌}
-use mathlib.Core.Path.{◌≡◌, refl, sym, ap, ◌∙◌}
+use Prim.Native.Nat.{◌-◌}
+use mathlib.Core.Path.{◌≡◌}
 use native.Mathlib.Omega.{arith}
-use lib.ListN.{length, take, drop, get_or}
-use borrow.Author.Rules.{rules}
 use Rattle.drawer_moves.proofs.Moves.{next-none, next-taken, next-left}
-use Rattle.drawer_moves.specs.Next.{Next}
 use Rattle.drawer_moves.proofs.next_file.Reads as reads
 use Rattle.drawer_moves.proofs.next_file.Lts as lts
 use Rattle.drawer_moves.proofs.is_next.Reads as is-next-reads

@@ -1,10 +1,5 @@
 -- `drawer_moves::next_file` meets its contract.
-use Prim.Native.Nat.{ℕ, ◌+◌, ◌-◌, ◌≤◌, ◌<◌}
-use mathlib.Core.Path.{◌≡◌, refl, sym, ap, ◌∙◌}
-use native.Mathlib.Omega.{arith}
-use lib.ListN.{length, take, drop, get_or}
-use borrow.Author.Rules.{rules}
-use Rattle.drawer_moves.proofs.Moves.{next-none, next-taken, next-left}
+use Prim.Native.Nat.{◌-◌, ◌≤◌}
 use Rattle.drawer_moves.specs.Next.{Next}
 use Rattle.drawer_moves.proofs.next_file.Reads as reads
 use Rattle.drawer_moves.proofs.next_file.Lts as lts

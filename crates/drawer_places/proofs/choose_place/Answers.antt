@@ -1,7 +1,5 @@
 -- `drawer_places::choose_place` meets its contract.
-use borrow.Author.Rules.{rules}
 use Rattle.drawer_places.proofs.Laws.{choice-none, choice-empty, choice-moved, choice-gap}
-use borrow.Author.Tests.{not-true, not-false}
 use Rattle.drawer_places.proofs.choose_place.Goals as goal
 
 pub returns-then-not-present : goal.returns-then-not-present

@@ -1,8 +1,7 @@
 -- `drawer_places::length_before` meets its contract.
-use Prim.Native.Nat.{◌-◌, ◌≤◌}
+use Prim.Native.Nat.{◌-◌}
 use native.Mathlib.Omega.{arith}
-use borrow.Author.Rules.{rules}
-use Rattle.drawer_places.proofs.Laws.{SumOf, sum-start, sum-turn, sum-end, length_if_before}
+use Rattle.drawer_places.proofs.Laws.{sum-start, sum-turn, sum-end}
 use Rattle.drawer_layout.specs.Places.{length_before}
 use Rattle.drawer_places.proofs.length_before.Goals as goal
 

@@ -1,5 +1,4 @@
 -- `drawer_places::length_if_before` meets its contract.
-use borrow.Author.Rules.{rules}
 use Rattle.drawer_places.proofs.Laws.{before-by-offset, before-not-here, before-by-number, before-not-number}
 use Rattle.drawer_places.proofs.length_if_before.Goals as goal
 

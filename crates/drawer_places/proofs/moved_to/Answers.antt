@@ -1,5 +1,4 @@
 -- `drawer_places::moved_to` meets its contract.
-use borrow.Author.Rules.{rules}
 use Rattle.drawer_places.proofs.Laws.{moved-omitted, moved-empty, moved-behind}
 use Rattle.drawer_places.proofs.moved_to.Goals as goal
 

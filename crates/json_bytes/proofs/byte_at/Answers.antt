@@ -1,5 +1,4 @@
 -- `json_bytes::byte_at` meets its contract: past the end `get_or` gives its default.
-use borrow.Author.Rules.{rules}
 use mathlib.Core.Path.{sym}
 use lib.ListN.{get_or-eq_default}
 use Rattle.json_bytes.proofs.byte_at.Goals as goal

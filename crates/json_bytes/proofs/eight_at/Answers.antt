@@ -1,5 +1,4 @@
 -- `json_bytes::eight_at` meets its contract: it is two fours.
-use borrow.Author.Rules.{rules}
 use Rattle.json_bytes.proofs.Eight.{eight-read}
 use Rattle.json_bytes.proofs.eight_at.Goals as goal
 

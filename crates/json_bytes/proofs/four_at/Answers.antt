@@ -1,6 +1,4 @@
 -- `json_bytes::four_at` meets its contract: each byte is read where it stands.
-use native.Mathlib.Omega.{arith}
-use borrow.Author.Rules.{rules}
 use Rattle.json_bytes.proofs.Eight.{four-read}
 use Rattle.json_bytes.proofs.four_at.Goals as goal
 

@@ -1,7 +1,5 @@
 -- `json_bytes::literal_at` meets its contract: the first byte decides the word, and a letter stands inside the file.
 use mathlib.Core.Path.{sym, ◌∙◌}
-use native.Mathlib.Omega.{arith}
-use borrow.Author.Rules.{rules}
 use lib.Dec.{lit<}
 use Rattle.json_bytes.proofs.Laws.{inside, begins-true, begins-false, begins-null, begins-none}
 use Rattle.json_bytes.proofs.literal_at.Goals as goal

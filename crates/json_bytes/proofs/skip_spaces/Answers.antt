@@ -1,10 +1,6 @@
 -- `json_bytes::skip_spaces` meets its contract: what is left of the run from here ends where the whole run ends.
-use Prim.Native.Nat.{◌+◌, ◌-◌}
-use mathlib.Core.Path.{◌≡◌, refl, sym, ◌∙◌}
-use native.Mathlib.Omega.{arith}
-use lib.ListN.{length, drop}
-use borrow.Author.Rules.{rules}
-use Rattle.json_bytes.specs.Reads.{leading, is_space, spaces_end}
+use mathlib.Core.Path.{refl, sym, ◌∙◌}
+use Rattle.json_bytes.specs.Reads.{is_space, spaces_end}
 use Rattle.json_bytes.proofs.Laws.{run_more, run-stops, run_ends}
 use Rattle.json_bytes.proofs.skip_spaces.Goals as goal
 

@@ -1,5 +1,4 @@
 -- `json_chars::digit_at` meets its contract: it is the digit of the byte at the place.
-use borrow.Author.Rules.{rules}
 use native.Mathlib.Omega.{arith}
 use Rattle.json_chars.specs.Step.{digit_at}
 use Rattle.json_chars.proofs.digit_at.Goals as goal

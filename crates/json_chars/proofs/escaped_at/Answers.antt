@@ -1,7 +1,5 @@
 -- `json_chars::escaped_at` meets its contract: the tests that led to each answer decide the definition.
-use borrow.Author.Rules.{rules}
-use mathlib.Core.Path.{◌≡◌, refl, sym, ap, ◌∙◌}
-use borrow.Author.Tests.{eq-eqb, ne_eqb, lt-ltb, le-ltb, le-leb, lt-leb}
+use borrow.Author.Tests.{eq-eqb, ne_eqb}
 use Rattle.json_chars.specs.Step.{escaped_at}
 use Rattle.json_chars.proofs.escaped_at.Goals as goal
 

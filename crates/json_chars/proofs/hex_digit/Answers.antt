@@ -1,6 +1,5 @@
 -- `json_chars::hex_digit` meets its contract: the tests that led to each answer decide the definition.
-use borrow.Author.Rules.{rules}
-use mathlib.Core.Path.{◌≡◌, refl, sym, ap, ◌∙◌}
+use mathlib.Core.Path.{sym, ◌∙◌}
 use native.Mathlib.Omega.{arith}
 use Rattle.json_chars.specs.Step.{hex_digit}
 use Rattle.json_bytes.proofs.Laws.{within-from, within-to}

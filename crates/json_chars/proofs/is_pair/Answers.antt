@@ -1,6 +1,5 @@
 -- `json_chars::is_pair` meets its contract: the tests that led to each answer decide the definition.
-use borrow.Author.Rules.{rules}
-use mathlib.Core.Path.{◌≡◌, refl, sym, ap, ◌∙◌}
+use mathlib.Core.Path.{sym, ◌∙◌}
 use Rattle.json_chars.specs.Step.{is_pair}
 use Rattle.json_chars.proofs.is_pair.Goals as goal
 

@@ -1,7 +1,5 @@
 -- `json_chars::is_second` meets its contract: the tests that led to each answer decide the definition.
-use borrow.Author.Rules.{rules}
-use mathlib.Core.Path.{◌≡◌, refl, sym, ap, ◌∙◌}
-use borrow.Author.Tests.{eq-eqb, ne_eqb, lt-ltb, le-ltb, le-leb, lt-leb}
+use borrow.Author.Tests.{ne_eqb}
 use Rattle.json_chars.specs.Step.{second}
 use Rattle.json_chars.proofs.is_second.Goals as goal
 

@@ -1,6 +1,5 @@
 -- `json_chars::is_three` meets its contract: the tests that led to each answer decide the definition.
-use borrow.Author.Rules.{rules}
-use mathlib.Core.Path.{◌≡◌, refl, sym, ap, ◌∙◌}
+use mathlib.Core.Path.{sym, ◌∙◌}
 use Rattle.json_chars.specs.Step.{is_three}
 use Rattle.json_chars.proofs.is_three.Goals as goal
 

@@ -1,6 +1,5 @@
 -- `json_chars::joined_at` meets its contract: the tests that led to each answer decide the definition.
-use borrow.Author.Rules.{rules}
-use mathlib.Core.Path.{◌≡◌, refl, sym, ap, ◌∙◌}
+use mathlib.Core.Path.{sym, ◌∙◌}
 use native.Mathlib.Omega.{arith}
 use Rattle.json_chars.specs.Step.{surrogates_joined}
 use Rattle.json_bytes.proofs.Laws.{within-from, within-to}

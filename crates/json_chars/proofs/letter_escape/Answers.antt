@@ -1,6 +1,5 @@
 -- `json_chars::letter_escape` meets its contract: each letter decides its case.
-use borrow.Author.Rules.{rules}
-use borrow.Author.Tests.{eq-eqb, ne_eqb, lt-ltb, le-ltb, le-leb, lt-leb}
+use borrow.Author.Tests.{ne_eqb}
 use Rattle.json_chars.specs.Step.{letter_escape}
 use Rattle.json_chars.proofs.letter_escape.Goals as goal
 

@@ -1,7 +1,5 @@
 -- `json_chars::low_unit_at` meets its contract: 256 tells nothing, and any other answer is the unit of the digits.
-use mathlib.Core.Path.{◌≡◌, refl, sym, ap, ◌∙◌}
 use native.Mathlib.Omega.{arith}
-use borrow.Author.Rules.{rules}
 use Rattle.json_chars.proofs.Laws.{low-unit}
 use Rattle.json_chars.proofs.low_unit_at.Goals as goal
 

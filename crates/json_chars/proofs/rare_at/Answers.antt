@@ -1,5 +1,4 @@
 -- `json_chars::rare_at` meets its contract: the test decides the definition.
-use borrow.Author.Rules.{rules}
 use borrow.Author.Tests.{eq-eqb, ne_eqb}
 use Rattle.json_chars.proofs.rare_at.Goals as goal
 

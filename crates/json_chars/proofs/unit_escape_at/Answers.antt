@@ -1,7 +1,5 @@
 -- `json_chars::unit_escape_at` meets its contract: the tests that led to each answer decide the definition.
-use borrow.Author.Rules.{rules}
-use mathlib.Core.Path.{◌≡◌, refl, sym, ap, ◌∙◌}
-use native.Mathlib.Omega.{arith}
+use mathlib.Core.Path.{sym}
 use Rattle.json_chars.specs.Step.{surrogates_joined}
 use Rattle.json_chars.proofs.Laws.{low-joined}
 use Rattle.json_chars.proofs.unit_escape_at.Goals as goal

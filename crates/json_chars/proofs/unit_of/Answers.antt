@@ -1,6 +1,4 @@
 -- `json_chars::unit_of` meets its contract: by the cases of a unit.
-use borrow.Author.Rules.{rules}
-use mathlib.Core.Path.{◌≡◌, refl, sym, ap, ◌∙◌}
 use Rattle.json_chars.specs.Step.{unit_of}
 use Rattle.json_chars.proofs.unit_of.Goals as goal
 

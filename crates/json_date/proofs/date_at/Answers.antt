@@ -1,7 +1,5 @@
 -- `json_date::date_at` meets its contract: a date as it stands is the one, any other string is decoded.
-use mathlib.Core.Path.{◌≡◌, refl, sym, ap, ◌∙◌}
-use native.Mathlib.Omega.{arith}
-use borrow.Author.Rules.{rules}
+use mathlib.Core.Path.{sym, ◌∙◌}
 use Rattle.json_date.proofs.Collect.{none-there}
 use Rattle.json_date.proofs.Plain.{plain-day}
 use Rattle.json_date.proofs.date_at.Goals as goal

@@ -1,5 +1,4 @@
 -- `json_date::date_of` meets its contract: the form gives the digits that are read, and the calendar decides.
-use borrow.Author.Rules.{rules}
 use native.Mathlib.Omega.{arith}
 use mathlib.Core.Path.{sym, ◌∙◌}
 use Rattle.json_date.proofs.Laws.{Form, form, no-form, is-date, no-day}

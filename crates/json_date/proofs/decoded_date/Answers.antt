@@ -2,14 +2,11 @@
 use Prim.Native.Nat.{◌-◌}
 use mathlib.Core.Path.{refl, sym, ap, ◌∙◌}
 use native.Mathlib.Omega.{arith}
-use borrow.Author.Rules.{rules}
-use lib.ListN.{length}
 use lib.Seq.{length-take-le}
 use lib.Dec.{lit<}
 use Rattle.json_bytes.proofs.Laws.{inside}
-use Rattle.json_chars.specs.Chars.{chars_at}
 use Rattle.json_date.specs.Date.{date_of}
-use Rattle.json_date.proofs.Collect.{none-there, Collected, collect-start, collect-goes-on, collect-more, collect-over, collect-close, collect-bad}
+use Rattle.json_date.proofs.Collect.{none-there, collect-start, collect-goes-on, collect-more, collect-over, collect-close, collect-bad}
 use Rattle.json_date.proofs.decoded_date.Goals as goal
 
 pub returns-then-byte_at-ne34 : goal.returns-then-byte_at-ne34

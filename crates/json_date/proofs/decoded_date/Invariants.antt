@@ -1,15 +1,9 @@
 -- `json_date::decoded_date` meets its contract: the characters collected and those left are those of the string.
 use Prim.Native.Nat.{◌-◌}
-use mathlib.Core.Path.{refl, sym, ap, ◌∙◌}
-use native.Mathlib.Omega.{arith}
-use borrow.Author.Rules.{rules}
 use lib.ListN.{length}
-use lib.Seq.{length-take-le}
 use lib.Dec.{lit<}
-use Rattle.json_bytes.proofs.Laws.{inside}
 use Rattle.json_chars.specs.Chars.{chars_at}
-use Rattle.json_date.specs.Date.{date_of}
-use Rattle.json_date.proofs.Collect.{none-there, Collected, collect-start, collect-goes-on, collect-more, collect-over, collect-close, collect-bad}
+use Rattle.json_date.proofs.Collect.{Collected}
 use Rattle.json_date.proofs.decoded_date.Given as goal
 
 abbrev pub invariant-loop-code : goal.invariant-loop-code

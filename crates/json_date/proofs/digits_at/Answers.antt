@@ -1,5 +1,4 @@
 -- `json_date::digits_at` meets its contract: the second is asked where the first is a digit.
-use borrow.Author.Rules.{rules}
 use mathlib.Core.Path.{sym, ◌∙◌}
 use Rattle.json_date.specs.Date.{all_digits_at}
 use Rattle.json_date.proofs.digits_at.Goals as goal

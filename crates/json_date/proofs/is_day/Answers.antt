@@ -1,6 +1,5 @@
 -- `json_date::is_day` meets its contract: the tests that led to each answer decide the definition. One of the first 28 days
 -- is a day of its month whichever that is.
-use borrow.Author.Rules.{rules}
 use mathlib.Core.Path.{sym, ◌∙◌}
 use Rattle.json_date.specs.Date.{is_day}
 use Rattle.json_date.proofs.Laws.{day-early}

@@ -1,5 +1,4 @@
 -- `json_date::is_digit` meets its contract: a byte that is made wide is the same number.
-use borrow.Author.Rules.{rules}
 use Rattle.json_date.proofs.is_digit.Goals as goal
 
 pub returns : goal.returns

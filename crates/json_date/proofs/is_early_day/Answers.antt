@@ -1,7 +1,6 @@
 -- `json_date::is_early_day` meets its contract: where every test was passed, the ten bytes are a date.
 use mathlib.Core.Path.{sym, ◌∙◌}
 use mathlib.Core.Bool.{false≢true}
-use borrow.Author.Rules.{rules}
 use Rattle.json_date.proofs.Plain.{early-at}
 use Rattle.json_date.proofs.is_early_day.Goals as goal
 

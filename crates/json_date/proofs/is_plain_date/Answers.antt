@@ -1,7 +1,6 @@
 -- `json_date::is_plain_date` meets its contract: the length, the two quotes, then the ten bytes decide.
 use mathlib.Core.Path.{sym}
 use native.Mathlib.Omega.{arith}
-use borrow.Author.Rules.{rules}
 use borrow.Author.Tests.{eq-eqb, ne_eqb}
 use Rattle.json_date.specs.Plain.{is_plain_date}
 use Rattle.json_date.proofs.Plain.{past_end}

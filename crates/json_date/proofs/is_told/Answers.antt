@@ -1,5 +1,4 @@
 -- `json_date::is_told` meets its contract: each arm is a clause of the definition.
-use borrow.Author.Rules.{rules}
 use Rattle.json_date.specs.Plain.{is_told}
 use Rattle.json_date.proofs.is_told.Goals as goal
 

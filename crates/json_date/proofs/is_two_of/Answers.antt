@@ -2,7 +2,6 @@
 use mathlib.Core.Path.{◌≡◌, sym, ◌∙◌}
 use mathlib.Core.Bool.{true}
 use native.Mathlib.Omega.{arith}
-use borrow.Author.Rules.{rules}
 use Rattle.json_bytes.specs.Reads.{within}
 use Rattle.json_bytes.proofs.Laws.{within-from}
 use Rattle.json_date.specs.Plain.{is_two_of}

@@ -1,5 +1,4 @@
 -- `json_date::month_days` meets its contract: the tests that led to each answer decide the definition.
-use borrow.Author.Rules.{rules}
 use borrow.Author.Tests.{eq-eqb, ne_eqb}
 use mathlib.Core.Path.{sym, ◌∙◌}
 use Rattle.json_date.specs.Date.{month_days}

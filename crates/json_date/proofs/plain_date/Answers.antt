@@ -1,8 +1,7 @@
 -- `json_date::plain_date` meets its contract: without the closing quote it tells nothing, and with it the ten bytes decide.
-use mathlib.Core.Path.{◌≡◌, refl, sym, ap, ◌∙◌}
+use mathlib.Core.Path.{refl, sym, ◌∙◌}
 use mathlib.Core.Logic.{inl}
 use native.Mathlib.Omega.{arith}
-use borrow.Author.Rules.{rules}
 use lib.Dec.{lit<}
 use Rattle.json_bytes.proofs.Laws.{inside}
 use Rattle.json_date.proofs.Plain.{plain-or-none}

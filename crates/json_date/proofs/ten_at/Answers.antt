@@ -1,9 +1,5 @@
 -- `json_date::ten_at` meets its contract: the bytes, one by one.
-use Prim.Native.Nat.{ℕ, ◌+◌, ◌-◌, ◌≤◌, ◌<◌}
-use mathlib.Core.Path.{◌≡◌, refl, sym, ap, ◌∙◌}
-use native.Mathlib.Omega.{arith}
-use lib.ListN.{length, take, drop, get_or}
-use borrow.Author.Rules.{rules}
+use Prim.Native.Nat.{◌-◌}
 use Rattle.json_date.proofs.Plain.{ten-bytes}
 use Rattle.json_date.proofs.ten_at.Goals as goal
 

@@ -1,5 +1,4 @@
 -- `json_date::two_at` meets its contract: a digit is from 48 to 57, so that nothing wraps.
-use borrow.Author.Rules.{rules}
 use native.Mathlib.Omega.{arith}
 use mathlib.Core.Path.{refl}
 use Rattle.json_date.specs.Date.{two_at}

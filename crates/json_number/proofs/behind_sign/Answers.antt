@@ -1,7 +1,6 @@
 -- `json_number::behind_sign` meets its contract, by the byte where the sign would stand.
 use mathlib.Core.Path.{sym, ◌∙◌}
 use native.Mathlib.Omega.{arith}
-use borrow.Author.Rules.{rules}
 use borrow.Author.Tests.{eq-eqb, ne_eqb}
 use lib.Dec.{lit<}
 use Rattle.json_bytes.proofs.Laws.{inside}

@@ -1,7 +1,6 @@
 -- `json_number::coefficient_at` meets its contract: a zero stands alone, and any other digit begins a run.
 use mathlib.Core.Path.{sym, ap, ◌∙◌}
 use native.Mathlib.Omega.{arith}
-use borrow.Author.Rules.{rules}
 use lib.Dec.{lit<}
 use Rattle.json_bytes.proofs.Laws.{inside}
 use Rattle.json_number.specs.Capped.{capped_coefficient}

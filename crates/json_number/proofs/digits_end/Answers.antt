@@ -1,11 +1,8 @@
 -- `json_number::digits_end` meets its contract: the digits from here end where all of them do.
-use Prim.Native.Nat.{◌+◌, ◌-◌}
-use mathlib.Core.Path.{◌≡◌, refl, sym, ◌∙◌}
-use native.Mathlib.Omega.{arith}
-use lib.ListN.{length}
-use borrow.Author.Rules.{rules}
+use Prim.Native.Nat.{◌-◌}
+use mathlib.Core.Path.{refl, sym, ◌∙◌}
 use Rattle.json_bytes.proofs.Laws.{run_more, run-stops, run_ends}
-use Rattle.json_number.specs.Number.{is_digit, digits_at}
+use Rattle.json_number.specs.Number.{is_digit}
 use Rattle.json_number.proofs.digits_end.Goals as goal
 
 pub loop-j-init : goal.loop-j-init

@@ -1,7 +1,6 @@
 -- `json_number::fraction_at` meets its contract, by the byte where the point would stand and the run behind it.
 use mathlib.Core.Path.{sym, ◌∙◌}
 use native.Mathlib.Omega.{arith}
-use borrow.Author.Rules.{rules}
 use lib.Dec.{lit<}
 use Rattle.json_bytes.proofs.Laws.{inside}
 use Rattle.json_number.proofs.Parts.{fraction-absent, fraction-empty, fraction-stands}

@@ -1,6 +1,5 @@
 -- `json_number::goes_on` meets its contract: the tests that led to each answer decide the definition.
 use mathlib.Core.Path.{sym, ◌∙◌}
-use borrow.Author.Rules.{rules}
 use borrow.Author.Tests.{eq-eqb, ne_eqb}
 use Rattle.json_number.specs.Alone.{goes_on}
 use Rattle.json_number.proofs.goes_on.Goals as goal

@@ -1,6 +1,5 @@
 -- `json_number::integer_at` meets its contract: a digit that stands alone is its own magnitude, and any other number is read in full.
 use mathlib.Core.Path.{ap, ◌∙◌}
-use borrow.Author.Rules.{rules}
 use Rattle.json_number.specs.Number.{integer_of}
 use Rattle.json_number.specs.declared.Number.{Number}
 use Rattle.json_number.proofs.Alone.{digit-integer}

@@ -1,6 +1,5 @@
 -- `json_number::integer_of` meets its contract, by cases on the value.
 use mathlib.Core.Path.{sym, ap, ◌∙◌}
-use borrow.Author.Rules.{rules}
 use Rattle.json_number.specs.Number.{integer_of}
 use Rattle.json_number.proofs.integer_of.Goals as goal
 

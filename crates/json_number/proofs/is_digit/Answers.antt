@@ -1,5 +1,4 @@
 -- `json_number::is_digit` meets its contract: a digit is a byte from 48 to 57.
-use borrow.Author.Rules.{rules}
 use Rattle.json_number.specs.Number.{is_digit}
 use Rattle.json_number.proofs.is_digit.Goals as goal
 

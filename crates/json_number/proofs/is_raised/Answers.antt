@@ -1,7 +1,6 @@
 -- `json_number::is_raised` meets its contract: a product is a number exactly if the number divides and gives the factor.
 use mathlib.Core.Path.{refl}
 use native.Mathlib.Omega.{arith}
-use borrow.Author.Rules.{rules}
 use Rattle.json_number.proofs.Scale.{ten-pos, raised-zero, raised-over, raised-not, raised_is}
 use Rattle.json_number.proofs.is_raised.Goals as goal
 

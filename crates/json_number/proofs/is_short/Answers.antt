@@ -1,5 +1,4 @@
 -- `json_number::is_short` meets its contract: the tests that led to each answer decide the definition.
-use borrow.Author.Rules.{rules}
 use borrow.Author.Tests.{eq-eqb, ne_eqb, lt-ltb, le-ltb}
 use Rattle.json_number.specs.Short.{is_short}
 use Rattle.json_number.proofs.is_short.Goals as goal

@@ -1,7 +1,6 @@
 -- `json_number::number_at` meets its contract, by the byte where the sign would stand.
 use mathlib.Core.Path.{sym, ◌∙◌}
 use native.Mathlib.Omega.{arith}
-use borrow.Author.Rules.{rules}
 use lib.Dec.{lit<}
 use Rattle.json_bytes.proofs.Laws.{inside}
 use Rattle.json_number.proofs.Parts.{number-minus, number-plain}

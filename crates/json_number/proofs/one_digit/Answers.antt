@@ -2,8 +2,6 @@
 use mathlib.Core.Path.{◌≡◌, sym, ◌∙◌}
 use mathlib.Core.Bool.{true}
 use native.Mathlib.Omega.{arith}
-use borrow.Author.Rules.{rules}
-use borrow.Author.Tests.{not-true, not-false}
 use Rattle.json_number.specs.Number.{is_digit}
 use Rattle.json_number.proofs.Digits.{digit-range}
 use Rattle.json_number.proofs.Alone.{digit-inside, no_digit, digit-goes-on, digit-stands}

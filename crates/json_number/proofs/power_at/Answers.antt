@@ -1,5 +1,4 @@
 -- `json_number::power_at` meets its contract, by the run of digits.
-use borrow.Author.Rules.{rules}
 use Rattle.json_number.proofs.Digits.{carried_none}
 use Rattle.json_number.proofs.Parts.{power-empty, power-stands}
 use Rattle.json_number.proofs.power_at.Goals as goal

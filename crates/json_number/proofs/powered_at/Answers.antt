@@ -1,7 +1,6 @@
 -- `json_number::powered_at` meets its contract: a capped exponent decides as the exponent itself does.
 use mathlib.Core.Path.{◌∙◌}
 use native.Mathlib.Omega.{arith}
-use borrow.Author.Rules.{rules}
 use Rattle.json_number.specs.Number.{exponent_at}
 use Rattle.json_number.proofs.Parts.{exponent-bound, exponent-stands, exponent-stops}
 use Rattle.json_number.proofs.powered_at.Goals as goal

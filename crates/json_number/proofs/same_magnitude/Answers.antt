@@ -1,7 +1,6 @@
 -- `json_number::same_magnitude` meets its contract: the larger power of ten is brought down to the smaller.
 use mathlib.Core.Path.{◌∙◌}
 use native.Mathlib.Omega.{arith}
-use borrow.Author.Rules.{rules}
 use Rattle.json_number.specs.Number.{magnitude}
 use Rattle.json_number.proofs.Scale.{same-lowered, test-swap}
 use Rattle.json_number.proofs.same_magnitude.Goals as goal

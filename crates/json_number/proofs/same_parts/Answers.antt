@@ -1,8 +1,6 @@
 -- `json_number::same_parts` meets its contract: each test that failed decides the definition, and the last one is its answer.
 use mathlib.Core.Path.{sym, ap, ◌∙◌}
 use mathlib.Core.Bool.{Bool}
-use borrow.Author.Rules.{rules}
-use borrow.Author.Tests.{not-true, not-false}
 use Rattle.json_number.specs.Number.{same_sign}
 use Rattle.json_number.proofs.Limits.{within-c}
 use Rattle.json_number.proofs.Scale.{same-outside, same-outside-2, same-unequal, same-zero, same-signs}

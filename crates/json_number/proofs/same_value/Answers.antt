@@ -1,6 +1,5 @@
 -- `json_number::same_value` meets its contract, by cases on the two values.
 use mathlib.Core.Path.{refl}
-use borrow.Author.Rules.{rules}
 use Rattle.json_number.specs.Number.{same_value}
 use Rattle.json_number.proofs.Scale.{same_of}
 use Rattle.json_number.proofs.same_value.Goals as goal

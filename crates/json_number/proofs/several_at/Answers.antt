@@ -1,6 +1,5 @@
 -- `json_number::several_at` meets its contract: a capped c decides as c itself does.
 use mathlib.Core.Path.{◌∙◌}
-use borrow.Author.Rules.{rules}
 use Rattle.json_number.proofs.Places.{counts-room}
 use Rattle.json_number.proofs.Parts.{coefficient-stands, coefficient-stops}
 use Rattle.json_number.proofs.several_at.Goals as goal

@@ -1,6 +1,5 @@
 -- `json_number::short_end` meets its contract: the test of its digits before the point decides the definition.
 use mathlib.Core.Path.{sym, ◌∙◌}
-use borrow.Author.Rules.{rules}
 use Rattle.json_number.proofs.Short.{short-stands, short_none}
 use Rattle.json_number.proofs.short_end.Goals as goal
 

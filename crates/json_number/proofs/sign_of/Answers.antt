@@ -1,6 +1,5 @@
 -- `json_number::sign_of` meets its contract, by cases on the value.
 use mathlib.Core.Path.{sym, ap, ◌∙◌}
-use borrow.Author.Rules.{rules}
 use Rattle.json_number.specs.Number.{sign_of}
 use Rattle.json_number.proofs.Scale.{sign_zero, sign_below, sign_above}
 use Rattle.json_number.proofs.sign_of.Goals as goal

@@ -1,6 +1,6 @@
 -- `json_number::ten_to` meets its contract: each turn multiplies by ten, and ten to the fifteenth fits.
-use Prim.Native.Nat.{ℕ, ◌-◌, ◌^◌, ◌≤◌}
-use mathlib.Core.Path.{◌≡◌, refl, ap, ◌∙◌}
+use Prim.Native.Nat.{ℕ, ◌-◌, ◌^◌}
+use mathlib.Core.Path.{refl, ap, ◌∙◌}
 use native.Mathlib.Omega.{arith}
 use borrow.Author.Rules.{rules}
 use Rattle.json_number.proofs.Scale.{ten-more, ten-bound}

@@ -1,5 +1,4 @@
 -- `json_number::unless_raised` meets its contract: the tests that led to each answer decide the definition.
-use borrow.Author.Rules.{rules}
 use borrow.Author.Tests.{eq-eqb, ne_eqb}
 use Rattle.json_number.specs.Short.{unless_raised}
 use Rattle.json_number.proofs.unless_raised.Goals as goal

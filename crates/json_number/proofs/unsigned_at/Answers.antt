@@ -1,8 +1,6 @@
 -- `json_number::unsigned_at` meets its contract: a digit that stands alone is the number, and any other number is read in full.
 use mathlib.Core.Path.{sym, ◌∙◌}
 use native.Mathlib.Omega.{arith}
-use borrow.Author.Rules.{rules}
-use borrow.Author.Tests.{not-false}
 use Rattle.json_number.proofs.Digits.{digit-range}
 use Rattle.json_number.proofs.Alone.{digit-inside, alone-is}
 use Rattle.json_number.proofs.unsigned_at.Goals as goal

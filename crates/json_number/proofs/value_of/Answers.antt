@@ -1,7 +1,6 @@
 -- `json_number::value_of` meets its contract: each test is one side of a limit.
 use mathlib.Core.Path.{sym, ◌∙◌}
 use native.Mathlib.Omega.{arith}
-use borrow.Author.Rules.{rules}
 use Rattle.json_number.proofs.Limits.{limited-is, limited-low, limited-high, value-zero, value-below, value-above, value-c}
 use Rattle.json_number.proofs.value_of.Goals as goal
 

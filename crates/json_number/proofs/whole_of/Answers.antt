@@ -1,8 +1,6 @@
 -- `json_number::whole_of` meets its contract: below 15 the power divides c, from 15 on it multiplies c.
 use mathlib.Core.Path.{sym, ◌∙◌}
 use native.Mathlib.Omega.{arith}
-use borrow.Author.Rules.{rules}
-use borrow.Author.Tests.{not-true, not-false}
 use Rattle.json_number.proofs.Limits.{within-c, within-p}
 use Rattle.json_number.proofs.Scale.{ten-pos, whole-outside, whole-zero, whole-fraction, whole-lowered, whole-raised, whole-large, raised-bound}
 use Rattle.json_number.proofs.whole_of.Goals as goal

@@ -1,5 +1,4 @@
 -- `json_number::zeros_behind` meets its contract: the tests that led to each answer decide the definition.
-use native.Mathlib.Omega.{arith}
 use borrow.Author.Tests.{eq-eqb, ne_eqb}
 use Rattle.json_number.proofs.zeros_behind.Goals as goal
 

@@ -1,7 +1,6 @@
 -- `json_same::alike_at` meets its contract: where eight bytes are left in both, by the number that tells them apart.
 -- Assumes nothing.
 use native.Mathlib.Omega.{arith}
-use borrow.Author.Rules.{rules}
 use Rattle.json_same.proofs.Alike.{none_alike, eight-alike}
 use Rattle.json_same.proofs.alike_at.Goals as goal
 

@@ -1,5 +1,4 @@
 -- `json_same::are_plain` meets its contract: the second is asked where the first is plain.
-use borrow.Author.Rules.{rules}
 use mathlib.Core.Path.{sym, ◌∙◌}
 use Rattle.json_same.proofs.are_plain.Goals as goal
 

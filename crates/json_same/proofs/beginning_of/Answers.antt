@@ -1,5 +1,4 @@
 -- `json_same::beginning_of` meets its contract: the test for a quote decides the definition, and a quote stands inside the slice.
-use borrow.Author.Rules.{rules}
 use borrow.Author.Tests.{eq-eqb, ne_eqb}
 use mathlib.Core.Path.{sym, ◌∙◌}
 use native.Mathlib.Omega.{arith}

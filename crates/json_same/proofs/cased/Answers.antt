@@ -1,5 +1,4 @@
 -- `json_same::cased` meets its contract: by its cases, and by the test that led to each answer.
-use borrow.Author.Rules.{rules}
 use mathlib.Core.Path.{sym, ◌∙◌}
 use native.Mathlib.Omega.{arith}
 use Rattle.json_bytes.proofs.Laws.{within-to}

@@ -1,5 +1,4 @@
 -- `json_same::is_end` meets its contract: by the cases of a step.
-use borrow.Author.Rules.{rules}
 use Rattle.json_same.specs.Walk.{is_end}
 use Rattle.json_same.proofs.is_end.Goals as goal
 

@@ -1,5 +1,4 @@
 -- `json_same::pair_of` meets its contract: by the tests that led to each answer.
-use borrow.Author.Rules.{rules}
 use mathlib.Core.Path.{sym, ◌∙◌}
 use Rattle.json_same.proofs.Pairs.{pair-equal, pair-unplain, pair_same, pair-apart, pair-other}
 use Rattle.json_same.proofs.pair_of.Goals as goal

@@ -1,11 +1,8 @@
 -- `json_same::run_of` meets its contract: the run from here ends as the whole run does.
 use Prim.Native.Nat.{◌-◌}
-use mathlib.Core.Path.{◌≡◌, refl, sym, ◌∙◌}
-use native.Mathlib.Omega.{arith}
-use borrow.Author.Rules.{rules}
+use mathlib.Core.Path.{◌≡◌}
 use lib.ListN.{drop}
 use Rattle.json_same.specs.Walk.{run_from}
-use Rattle.json_same.proofs.Pairs.{run_more, run-differs, run-stops, run_ends}
 use Rattle.json_same.proofs.run_of.Given as goal
 
 abbrev pub invariant-loop-k : goal.invariant-loop-k

@@ -3,8 +3,7 @@
 use Prim.Native.Nat.{◌+◌, ◌-◌}
 use mathlib.Core.Path.{refl, sym, ap, ◌∙◌}
 use native.Mathlib.Omega.{arith}
-use borrow.Author.Rules.{rules}
-use lib.ListN.{length, drop_of_length-le}
+use lib.ListN.{drop_of_length-le}
 use Rattle.json_chars.specs.Chars.{chars_at}
 use Rattle.json_same.specs.Same.{cased_as, same_as}
 use Rattle.json_same.proofs.Walk.{Worded, begins, goes_on, end-by-tag, next-letter, word-ends, word_on, word-part, against-end, against-longer, against-more, against-differs}

@@ -1,13 +1,10 @@
 -- `json_same::text_is` meets its contract: comparing what is left of the string with what is left of the word answers as
 -- comparing the whole of them.
-use Prim.Native.Nat.{◌+◌, ◌-◌}
-use mathlib.Core.Path.{refl, sym, ap, ◌∙◌}
-use native.Mathlib.Omega.{arith}
-use borrow.Author.Rules.{rules}
-use lib.ListN.{length, drop_of_length-le}
+use Prim.Native.Nat.{◌-◌}
+use lib.ListN.{length}
 use Rattle.json_chars.specs.Chars.{chars_at}
-use Rattle.json_same.specs.Same.{cased_as, same_as}
-use Rattle.json_same.proofs.Walk.{Worded, begins, goes_on, end-by-tag, next-letter, word-ends, word_on, word-part, against-end, against-longer, against-more, against-differs}
+use Rattle.json_same.specs.Same.{same_as}
+use Rattle.json_same.proofs.Walk.{Worded}
 use Rattle.json_same.proofs.text_is.Given as goal
 
 abbrev pub invariant-loop-n : goal.invariant-loop-n

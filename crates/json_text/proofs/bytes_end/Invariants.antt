@@ -1,7 +1,6 @@
 -- `json_text::bytes_end` meets its contract: what is left of the run from here ends where the whole run ends.
-use Rattle.std.proofs.Common.{◌≡◌, ◌+◌, ◌-◌, length, drop, sym, refl, ◌∙◌, arith, rules}
+use Rattle.std.proofs.Common.{◌≡◌, ◌+◌, ◌-◌, length, drop}
 use Rattle.json_bytes.specs.Reads.{leading}
-use Rattle.json_bytes.proofs.Laws.{run_more, run-stops, run_ends}
 use Rattle.json_text.specs.Run.{is_graphic, run_end}
 use Rattle.json_text.proofs.bytes_end.Given as goal
 

@@ -1,7 +1,6 @@
 -- `json_text::first_of` meets its contract: the tests that led to each answer decide the definition.
-use Rattle.std.proofs.Common.{◌≡◌, sym, refl, ap, ◌∙◌, rules, le-ltb, lt-ltb, eq-eqb, ne_eqb, le-leb}
-use borrow.Author.Tests.{lt-leb}
-use Rattle.json_text.specs.Text.{first_wrong, wrong_here, none}
+use Rattle.std.proofs.Common.{sym, ◌∙◌, le-ltb, lt-ltb}
+use Rattle.json_text.specs.Text.{wrong_here, none}
 use Rattle.json_text.proofs.Laws.{first-is, first-not}
 use Rattle.json_text.proofs.first_of.Goals as goal
 

@@ -1,6 +1,5 @@
 -- `json_text::in_runs` meets its contract: the runs that are left answer as all of them do.
-use Rattle.std.proofs.Common.{◌≡◌, ◌-◌, length, drop, sym, refl, ◌∙◌, arith, rules}
-use Rattle.json_text.specs.Text.{in_runs}
+use Rattle.std.proofs.Common.{◌-◌, sym, refl, ◌∙◌}
 use Rattle.json_text.proofs.Spaces.{run_holds, run-passed, runs-end}
 use Rattle.json_text.proofs.in_runs.Goals as goal
 

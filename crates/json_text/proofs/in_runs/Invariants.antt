@@ -1,7 +1,6 @@
 -- `json_text::in_runs` meets its contract: the runs that are left answer as all of them do.
-use Rattle.std.proofs.Common.{◌≡◌, ◌-◌, length, drop, sym, refl, ◌∙◌, arith, rules}
+use Rattle.std.proofs.Common.{◌≡◌, ◌-◌, length, drop}
 use Rattle.json_text.specs.Text.{in_runs}
-use Rattle.json_text.proofs.Spaces.{run_holds, run-passed, runs-end}
 use Rattle.json_text.proofs.in_runs.Given as goal
 
 abbrev pub invariant-loop-i : goal.invariant-loop-i

@@ -1,5 +1,5 @@
 -- `json_text::is_barred` meets its contract: the tests that led to each answer decide the definition.
-use Rattle.std.proofs.Common.{◌≡◌, sym, refl, ap, ◌∙◌, rules}
+use Rattle.std.proofs.Common.{sym, ◌∙◌}
 use Rattle.json_text.specs.Text.{barred}
 use Rattle.json_text.proofs.is_barred.Goals as goal
 

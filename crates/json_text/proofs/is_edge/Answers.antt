@@ -1,5 +1,4 @@
 -- `json_text::is_edge` meets its contract: the tests that led to each answer decide the definition.
-use Rattle.std.proofs.Common.{◌≡◌, sym, refl, ap, ◌∙◌, rules}
 use Rattle.json_text.specs.Text.{closes_at}
 use Rattle.json_text.proofs.is_edge.Goals as goal
 

@@ -1,5 +1,5 @@
 -- `json_text::is_graphic` meets its contract: the tests that led to each answer decide the definition.
-use Rattle.std.proofs.Common.{◌≡◌, ℕ, true, false, sym, ◌∙◌, arith, rules, eq-eqb, ne_eqb, le-leb}
+use Rattle.std.proofs.Common.{◌≡◌, ℕ, true, false, sym, ◌∙◌, arith, eq-eqb, ne_eqb, le-leb}
 use Rattle.json_bytes.specs.Reads.{within}
 use Rattle.json_bytes.proofs.Laws.{within-from, within-to}
 use Rattle.json_text.specs.Run.{is_graphic}

@@ -1,5 +1,5 @@
 -- `json_text::is_outside` meets its contract: by the cases of the type.
-use Rattle.std.proofs.Common.{◌≡◌, not, sym, refl, ap, ◌∙◌, rules}
+use Rattle.std.proofs.Common.{not, ap}
 use Rattle.json_text.specs.Text.{outside_id}
 use Rattle.json_text.proofs.is_outside.Goals as goal
 

@@ -1,6 +1,5 @@
 -- `json_text::is_plain_escape` meets its contract: the answer `false` tells nothing, and the tests that led to `true` make the escape.
-use Rattle.std.proofs.Common.{◌≡◌, ℕ, ◌+◌, true, false, sym, ◌∙◌, arith, rules}
-use borrow.Author.Tests.{not-false}
+use Rattle.std.proofs.Common.{◌≡◌, ℕ, ◌+◌, true, false, sym, ◌∙◌, arith}
 use Rattle.json_text.proofs.Escape.{Begun, ends-ten, ends-small, ends-f}
 use Rattle.json_text.proofs.is_plain_escape.Goals as goal
 use Rattle.json_text.proofs.is_plain_escape.Goals.{Else-not-is_within}

@@ -1,5 +1,5 @@
 -- `json_text::is_white` meets its contract: by the cases of the type, each with its own table.
-use Rattle.std.proofs.Common.{[], sym, refl, ap, ◌∙◌, rules}
+use Rattle.std.proofs.Common.{[], sym, refl, ap, ◌∙◌}
 use Rattle.json_text.specs.Text.{spaces_of, in_runs}
 use Rattle.json_text.proofs.Spaces.{of-set}
 use Rattle.json_text.proofs.is_white.Goals as goal

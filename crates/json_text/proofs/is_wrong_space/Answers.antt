@@ -1,5 +1,5 @@
 -- `json_text::is_wrong_space` meets its contract: the tests that led to each answer decide the definition.
-use Rattle.std.proofs.Common.{◌≡◌, sym, refl, ap, ◌∙◌, rules}
+use Rattle.std.proofs.Common.{sym, ◌∙◌}
 use Rattle.json_text.specs.Text.{wrong_space}
 use Rattle.json_text.proofs.is_wrong_space.Goals as goal
 

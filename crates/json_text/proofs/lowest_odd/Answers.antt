@@ -1,6 +1,5 @@
 -- `json_text::lowest_odd` meets its contract: up to the first byte that is no graphic one, no sum carries and no difference
 -- borrows.
-use Rattle.std.proofs.Common.{rules}
 use Rattle.json_text.proofs.Lowest.{lowest-told}
 use Rattle.json_text.proofs.lowest_odd.Goals as goal
 

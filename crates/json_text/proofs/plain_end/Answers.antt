@@ -1,5 +1,5 @@
 -- `json_text::plain_end` meets its contract: the two quotes decide the definition.
-use Rattle.std.proofs.Common.{◌≡◌, sym, refl, ap, ◌∙◌, arith, lit<, rules}
+use Rattle.std.proofs.Common.{sym, ◌∙◌, arith, lit<}
 use Rattle.json_bytes.proofs.Laws.{inside}
 use Rattle.json_text.proofs.Plain.{plain-unopened, plain-empty, plain_closed, plain-goes-on}
 use Rattle.json_text.proofs.plain_end.Goals as goal

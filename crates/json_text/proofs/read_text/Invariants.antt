@@ -1,12 +1,7 @@
 -- `json_text::read_text` meets its contract: what is left of the string at the loop's head, and behind the words from there on,
 -- reads as the whole does.
-use Rattle.std.proofs.Common.{◌≡◌, ℕ, ◌+◌, ◌-◌, ◌<◌, ◌≤◌, length, sym, refl, ap, ◌∙◌, arith, lit<, rules}
-use Rattle.json_bytes.specs.Reads.{byte_at}
-use Rattle.json_bytes.proofs.Laws.{inside}
-use Rattle.json_chars.proofs.Plain.{closing-step}
-use Rattle.json_text.specs.Run.{edge_behind}
-use Rattle.json_text.specs.Escape.{PlainEscape}
-use Rattle.json_text.proofs.Laws.{Left, opened, unopened, take-char, take-close, take-bad, char_after, close-inside, along-words, along-graphic}
+use Rattle.std.proofs.Common.{◌-◌, length, lit<}
+use Rattle.json_text.proofs.Laws.{Left}
 use Rattle.json_text.proofs.read_text.Given as goal
 
 abbrev pub invariant-loop-ty : goal.invariant-loop-ty

@@ -1,5 +1,5 @@
 -- `json_text::rule_of` meets its contract: the tests that led to each answer decide the definition.
-use Rattle.std.proofs.Common.{◌≡◌, sym, refl, ap, ◌∙◌, rules}
+use Rattle.std.proofs.Common.{sym, ◌∙◌}
 use Rattle.json_text.specs.Text.{rule_broken}
 use Rattle.json_text.proofs.Spaces.{graphic-right}
 use Rattle.json_text.proofs.rule_of.Goals as goal

@@ -1,5 +1,4 @@
 -- `json_text::stop_bytes` meets its contract: its flags are made of those of its two callees.
-use Rattle.std.proofs.Common.{rules}
 use Rattle.json_text.proofs.Stops.{stops-told}
 use Rattle.json_text.proofs.stop_bytes.Goals as goal
 

@@ -1,9 +1,6 @@
 -- `json_text::words_end` meets its contract: what is passed up to the loop's head stands in words.
-use Rattle.std.proofs.Common.{◌≡◌, ◌-◌, length, sym, ap, ◌∙◌, arith, rules}
-use Rattle.json_bytes.specs.Reads.{byte_at}
-use Rattle.json_text.specs.Eight.{stop_bytes}
-use Rattle.json_text.proofs.Flags.{first-bound}
-use Rattle.json_text.proofs.Words.{Passed, passed_none, words-none, passed-seven, words-stop, words-over}
+use Rattle.std.proofs.Common.{◌-◌, length}
+use Rattle.json_text.proofs.Words.{Passed}
 use Rattle.json_text.proofs.words_end.Given as goal
 
 abbrev pub invariant-loop-k : goal.invariant-loop-k

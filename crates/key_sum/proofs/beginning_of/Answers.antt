@@ -1,5 +1,5 @@
 -- `key_sum::beginning_of` meets its contract: the test for a quote decides the definition, and a quote stands inside the slice.
-use Rattle.std.proofs.Common.{sym, ◌∙◌, arith, lit<, rules, eq-eqb, ne_eqb}
+use Rattle.std.proofs.Common.{sym, ◌∙◌, arith, lit<, eq-eqb, ne_eqb}
 use Rattle.json_bytes.proofs.Laws.{inside}
 use Rattle.json_same.specs.Walk.{beginning}
 use Rattle.key_sum.proofs.beginning_of.Goals as goal

@@ -1,5 +1,5 @@
 -- `key_sum::folded` meets its contract: by the test that led to each answer.
-use Rattle.std.proofs.Common.{sym, ◌∙◌, arith, rules}
+use Rattle.std.proofs.Common.{sym, ◌∙◌, arith}
 use Rattle.json_bytes.proofs.Laws.{within-to}
 use Rattle.json_same.specs.Same.{cased_as}
 use Rattle.key_sum.proofs.folded.Goals as goal

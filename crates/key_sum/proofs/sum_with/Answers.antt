@@ -1,5 +1,4 @@
 -- `key_sum::sum_with` meets its contract: a wrapped product and a wrapped sum are one sum, wrapped.
-use Rattle.std.proofs.Common.{rules}
 use Rattle.key_sum.proofs.Laws.{wrapped}
 use Rattle.key_sum.proofs.sum_with.Goals as goal
 

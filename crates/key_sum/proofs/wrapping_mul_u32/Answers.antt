@@ -1,5 +1,5 @@
 -- `key_sum::wrapping_mul_u32` meets its contract: the product of two numbers of 32 bits has at most 64.
-use Rattle.std.proofs.Common.{arith, rules}
+use Rattle.std.proofs.Common.{arith}
 use Rattle.key_sum.proofs.Laws.{product-fits}
 use Rattle.key_sum.proofs.wrapping_mul_u32.Goals as goal
 

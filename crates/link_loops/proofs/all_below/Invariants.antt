@@ -1,11 +1,9 @@
 -- `link_loops::all_below` meets its contract: what is left decides as the whole does.
 -- Assumes nothing.
 use Prim.Native.Nat.{◌-◌, ◌≤◌}
-use mathlib.Core.Path.{◌≡◌, refl, sym, ◌∙◌}
-use native.Mathlib.Omega.{arith}
+use mathlib.Core.Path.{◌≡◌}
 use lib.ListN.{length, drop}
 use Rattle.link_loops.specs.Links.{all_below}
-use Rattle.link_loops.proofs.Shown.{below_on, below-not, below_end}
 use Rattle.link_loops.proofs.all_below.Given as goal
 
 abbrev pub invariant-loop-i : goal.invariant-loop-i

@@ -3,8 +3,7 @@
 use Prim.Native.Nat.{ℕ, ◌+◌, ◌-◌, ◌<◌}
 use mathlib.Core.Path.{◌≡◌, refl}
 use native.Mathlib.Omega.{arith}
-use lib.ListN.{length}
-use Rattle.link_loops.proofs.Chains.{Chaining, chain-starts, chain-ends, class-below, chain-again}
+use Rattle.link_loops.proofs.Chains.{chain-starts, chain-ends, class-below, chain-again}
 use Rattle.link_loops.proofs.chain_links.Goals as goal
 
 one-back : (i : ℕ) → 0 < i → (i - 1) + 1 ≡ i

@@ -1,10 +1,7 @@
 -- `link_loops::chain_links` meets its contract: the links from i on are chained.
 -- Assumes nothing.
-use Prim.Native.Nat.{ℕ, ◌+◌, ◌-◌, ◌<◌}
-use mathlib.Core.Path.{◌≡◌, refl}
-use native.Mathlib.Omega.{arith}
-use lib.ListN.{length}
-use Rattle.link_loops.proofs.Chains.{Chaining, chain-starts, chain-ends, class-below, chain-again}
+use Prim.Native.Nat.{◌-◌}
+use Rattle.link_loops.proofs.Chains.{Chaining}
 use Rattle.link_loops.proofs.chain_links.Given as goal
 
 abbrev pub invariant-loop-i : goal.invariant-loop-i

@@ -1,6 +1,5 @@
 -- `link_loops::seen` meets its contract: each way out of it is one of the definition.
 -- Assumes nothing.
-use native.Mathlib.Omega.{arith}
 use Rattle.link_loops.proofs.Lists.{no-class, no-link, its-mark}
 use Rattle.link_loops.proofs.seen.Goals as goal
 

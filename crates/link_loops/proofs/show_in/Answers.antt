@@ -1,6 +1,5 @@
 -- `link_loops::show_in` meets its contract: chained, walked, and the ring written.
 -- Assumes nothing.
-use borrow.Author.Rules.{rules}
 use Rattle.link_loops.proofs.Shown.{unwalked, ring-fits, ring-shown}
 use Rattle.link_loops.proofs.show_in.Goals as goal
 

@@ -3,8 +3,6 @@
 use Prim.Native.Nat.{ℕ}
 use mathlib.Core.Path.{sym, ◌∙◌}
 use native.Mathlib.Omega.{arith}
-use borrow.Author.Rules.{rules}
-use borrow.Author.Tests.{not-true, not-false}
 use lib.ListN.{length-replicate}
 use lib.Seq.{length-take-le}
 use Rattle.link_loops.proofs.Shown.{too_many, unequal, too_short, not-below, blank, links-shown}

@@ -1,10 +1,9 @@
 -- `link_loops::walk` meets its contract: each turn goes into a class, along it or out of it, or ends the walk.
 -- Assumes nothing.
-use Prim.Native.Nat.{ℕ, ◌+◌, ◌-◌, ◌≤◌}
+use Prim.Native.Nat.{ℕ, ◌+◌, ◌-◌}
 use mathlib.Core.Path.{◌≡◌, refl}
 use native.Mathlib.Omega.{arith}
-use lib.ListN.{length, get_or}
-use Rattle.link_loops.proofs.Lists.{Walking, remaining, walk-starts, root-passed, root-headed, room-left, steps-few, went-into, link-inside, seen-new, seen-ring, went_on, class-inside, went_back, walk_ends}
+use Rattle.link_loops.proofs.Lists.{walk-starts, root-passed, root-headed, room-left, steps-few, went-into, link-inside, seen-new, seen-ring, went_on, class-inside, went_back, walk_ends}
 use Rattle.link_loops.proofs.walk.Goals as goal
 
 one-back : (k : ℕ) → (k ≡ 0 → ⊥) → (k - 1) + 1 ≡ k

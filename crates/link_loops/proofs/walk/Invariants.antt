@@ -1,10 +1,8 @@
 -- `link_loops::walk` meets its contract: each turn goes into a class, along it or out of it, or ends the walk.
 -- Assumes nothing.
-use Prim.Native.Nat.{ℕ, ◌+◌, ◌-◌, ◌≤◌}
-use mathlib.Core.Path.{◌≡◌, refl}
-use native.Mathlib.Omega.{arith}
-use lib.ListN.{length, get_or}
-use Rattle.link_loops.proofs.Lists.{Walking, remaining, walk-starts, root-passed, root-headed, room-left, steps-few, went-into, link-inside, seen-new, seen-ring, went_on, class-inside, went_back, walk_ends}
+use Prim.Native.Nat.{◌-◌}
+use lib.ListN.{length}
+use Rattle.link_loops.proofs.Lists.{Walking, remaining}
 use Rattle.link_loops.proofs.walk.Given as goal
 
 abbrev pub invariant-loop-root : goal.invariant-loop-root

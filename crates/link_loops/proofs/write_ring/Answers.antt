@@ -1,10 +1,9 @@
 -- `link_loops::write_ring` meets its contract: the first i places have their record numbers.
 -- Assumes nothing.
-use Prim.Native.Nat.{ℕ, ◌+◌, ◌-◌, ◌≤◌}
+use Prim.Native.Nat.{◌+◌, ◌-◌}
 use mathlib.Core.Path.{◌≡◌, refl}
 use native.Mathlib.Omega.{arith}
-use lib.ListN.{get_or}
-use Rattle.mark_numbers.proofs.Laws.{Filled, fill-starts, fill-stores}
+use Rattle.mark_numbers.proofs.Laws.{fill-starts, fill-stores}
 use Rattle.link_loops.proofs.Shown.{all-written}
 use Rattle.link_loops.proofs.write_ring.Goals as goal
 

@@ -1,11 +1,8 @@
 -- `link_loops::write_ring` meets its contract: the first i places have their record numbers.
 -- Assumes nothing.
 use Prim.Native.Nat.{ℕ, ◌+◌, ◌-◌, ◌≤◌}
-use mathlib.Core.Path.{◌≡◌, refl}
-use native.Mathlib.Omega.{arith}
 use lib.ListN.{get_or}
-use Rattle.mark_numbers.proofs.Laws.{Filled, fill-starts, fill-stores}
-use Rattle.link_loops.proofs.Shown.{all-written}
+use Rattle.mark_numbers.proofs.Laws.{Filled}
 use Rattle.link_loops.proofs.write_ring.Given as goal
 
 abbrev pub invariant-loop-i : goal.invariant-loop-i

@@ -1,7 +1,6 @@
 -- `mark_numbers::count_faults` meets its contract. The loop's invariant: what was found is the number of faults up to m, and at most m,
 -- so that it fits; the measure is how many marks are left.
 -- Assumes nothing.
-use Prim.Native.Nat.{◌-◌, ◌≤◌}
 use mathlib.Core.Path.{◌≡◌, refl, ap, ◌∙◌}
 use native.Mathlib.Omega.{arith}
 use lib.ListN.{length}

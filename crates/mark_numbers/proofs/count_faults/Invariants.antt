@@ -2,11 +2,9 @@
 -- so that it fits; the measure is how many marks are left.
 -- Assumes nothing.
 use Prim.Native.Nat.{◌-◌, ◌≤◌}
-use mathlib.Core.Path.{◌≡◌, refl, ap, ◌∙◌}
-use native.Mathlib.Omega.{arith}
+use mathlib.Core.Path.{◌≡◌}
 use lib.ListN.{length}
-use Rattle.mark_numbers.specs.Marks.{faults_up_to, faults_in}
-use Rattle.mark_numbers.proofs.Laws.{holds-next, fault-next}
+use Rattle.mark_numbers.specs.Marks.{faults_up_to}
 use Rattle.mark_numbers.proofs.count_faults.Given as goal
 
 abbrev pub invariant-loop-m : goal.invariant-loop-m

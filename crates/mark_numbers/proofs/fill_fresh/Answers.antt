@@ -1,13 +1,10 @@
 -- `mark_numbers::fill_fresh` meets its contract. The loop's invariant: the first m marks are fresh and the rest as they were;
 -- the measure is how many are left.
 -- Assumes nothing.
-use Prim.Native.Nat.{◌-◌, ◌≤◌}
 use mathlib.Core.Path.{refl}
 use native.Mathlib.Omega.{arith}
-use lib.ListN.{length}
-use borrow.Author.Rules.{rules}
-use Rattle.mark_numbers.specs.Marks.{marks_in, not_judged, fresh_marks}
-use Rattle.mark_numbers.proofs.Laws.{Putting, lists-long, putting-starts, putting-puts, putting-ends}
+use Rattle.mark_numbers.specs.Marks.{fresh_marks}
+use Rattle.mark_numbers.proofs.Laws.{lists-long, putting-starts, putting-puts, putting-ends}
 use Rattle.mark_numbers.proofs.fill_fresh.Goals as goal
 
 pub loop-m-init : goal.loop-m-init

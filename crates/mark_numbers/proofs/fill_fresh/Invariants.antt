@@ -2,12 +2,9 @@
 -- the measure is how many are left.
 -- Assumes nothing.
 use Prim.Native.Nat.{◌-◌, ◌≤◌}
-use mathlib.Core.Path.{refl}
-use native.Mathlib.Omega.{arith}
 use lib.ListN.{length}
-use borrow.Author.Rules.{rules}
-use Rattle.mark_numbers.specs.Marks.{marks_in, not_judged, fresh_marks}
-use Rattle.mark_numbers.proofs.Laws.{Putting, lists-long, putting-starts, putting-puts, putting-ends}
+use Rattle.mark_numbers.specs.Marks.{marks_in, not_judged}
+use Rattle.mark_numbers.proofs.Laws.{Putting}
 use Rattle.mark_numbers.proofs.fill_fresh.Given as goal
 
 abbrev pub invariant-loop-m : goal.invariant-loop-m

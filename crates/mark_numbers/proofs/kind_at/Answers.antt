@@ -2,7 +2,6 @@
 -- Assumes nothing.
 use mathlib.Core.Path.{sym}
 use lib.ListN.{get_or-eq_default}
-use borrow.Author.Rules.{rules}
 use Rattle.mark_numbers.proofs.kind_at.Goals as goal
 
 pub returns-then-kinds-k : goal.returns-then-kinds-k

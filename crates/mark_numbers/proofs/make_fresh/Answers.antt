@@ -1,8 +1,6 @@
 -- `mark_numbers::make_fresh` meets its contract, by whether the lists are of one length.
 -- Assumes nothing.
 use mathlib.Core.Path.{sym, ◌∙◌}
-use borrow.Author.Rules.{rules}
-use Rattle.mark_numbers.specs.Marks.{marks_in}
 use Rattle.mark_numbers.proofs.Laws.{fresh-over, fresh_kept}
 use Rattle.mark_numbers.proofs.make_fresh.Goals as goal
 

@@ -1,6 +1,5 @@
 -- `mark_numbers::mark_in` meets its contract, number by number.
 -- Assumes nothing.
-use borrow.Author.Rules.{rules}
 use Rattle.mark_numbers.specs.Marks.{mark_in}
 use Rattle.mark_numbers.proofs.mark_in.Goals as goal
 

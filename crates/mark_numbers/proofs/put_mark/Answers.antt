@@ -1,6 +1,5 @@
 -- `mark_numbers::put_mark` meets its contract, list by list.
 -- Assumes nothing.
-use borrow.Author.Rules.{rules}
 use Rattle.mark_numbers.specs.Marks.{with_mark}
 use Rattle.mark_numbers.proofs.put_mark.Goals as goal
 

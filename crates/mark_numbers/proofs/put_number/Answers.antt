@@ -2,7 +2,6 @@
 -- Assumes nothing.
 use mathlib.Core.Path.{sym}
 use lib.Seq.{set_out}
-use borrow.Author.Rules.{rules}
 use Rattle.mark_numbers.proofs.put_number.Goals as goal
 
 pub returns-then-numbers-k : goal.returns-then-numbers-k

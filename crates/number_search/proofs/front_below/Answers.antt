@@ -4,8 +4,7 @@ use Prim.Native.Nat.{◌-◌}
 use mathlib.Core.Path.{refl}
 use native.Mathlib.Omega.{arith}
 use borrow.Author.Tests.{lt-ltb, le-ltb}
-use Rattle.number_search.specs.Search.{below}
-use Rattle.number_search.proofs.Laws.{Searching, starts, ends, goes_on, goes_back}
+use Rattle.number_search.proofs.Laws.{starts, ends, goes_on, goes_back}
 use Rattle.number_search.proofs.front_below.Goals as goal
 
 pub loop-lo-init : goal.loop-lo-init

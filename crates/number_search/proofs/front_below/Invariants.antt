@@ -1,11 +1,8 @@
 -- `number_search::front_below` meets its contract: the turns that are left end where the whole does.
 -- Assumes nothing.
 use Prim.Native.Nat.{◌-◌}
-use mathlib.Core.Path.{refl}
-use native.Mathlib.Omega.{arith}
-use borrow.Author.Tests.{lt-ltb, le-ltb}
 use Rattle.number_search.specs.Search.{below}
-use Rattle.number_search.proofs.Laws.{Searching, starts, ends, goes_on, goes_back}
+use Rattle.number_search.proofs.Laws.{Searching}
 use Rattle.number_search.proofs.front_below.Given as goal
 
 abbrev pub invariant-loop-lo : goal.invariant-loop-lo

@@ -1,6 +1,5 @@
 -- `output::put_byte` meets its contract: it writes where its test finds room.
 -- Assumes nothing.
-use borrow.Author.Rules.{rules}
 use Rattle.output.proofs.Puts.{byte_put, byte-none}
 use Rattle.output.proofs.put_byte.Goals as goal
 

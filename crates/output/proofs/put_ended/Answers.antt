@@ -1,6 +1,5 @@
 -- `output::put_ended` meets its contract: one text behind the other.
 -- Assumes nothing.
-use borrow.Author.Rules.{rules}
 use Rattle.output.proofs.Puts.{put_then}
 use Rattle.output.proofs.put_ended.Goals as goal
 

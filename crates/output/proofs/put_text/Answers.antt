@@ -1,11 +1,8 @@
 -- `output::put_text` meets its contract: after each turn what is left of the text, put behind what was, is the whole.
 -- Assumes nothing.
-use Prim.Native.Nat.{◌-◌, ◌≤◌}
-use mathlib.Core.Path.{◌≡◌, refl}
+use Prim.Native.Nat.{◌-◌}
+use mathlib.Core.Path.{refl}
 use native.Mathlib.Omega.{arith}
-use lib.ListN.{length, drop}
-use borrow.Author.Rules.{rules}
-use Rattle.output.specs.Output.{output_at, put}
 use Rattle.output.proofs.Puts.{text-next, text-end}
 use Rattle.output.proofs.put_text.Goals as goal
 

@@ -1,6 +1,5 @@
 -- `parts::part` meets its contract, in each case of its places.
 use mathlib.Core.Path.{sym}
-use borrow.Author.Rules.{rules}
 use Rattle.parts.proofs.Laws.{part-is, part_turned, part-past}
 use Rattle.parts.proofs.part.Goals as goal
 

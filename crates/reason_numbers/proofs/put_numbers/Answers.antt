@@ -1,9 +1,9 @@
 -- `reason_numbers::put_numbers` meets its contract: after each turn one number more is put over the others.
-use Prim.Native.Nat.{◌-◌, ◌≤◌}
-use mathlib.Core.Path.{◌≡◌, refl, ◌∙◌}
+use Prim.Native.Nat.{◌-◌}
+use mathlib.Core.Path.{refl, ◌∙◌}
 use native.Mathlib.Omega.{arith}
-use lib.ListN.{length, length-set}
-use lib.Seq.{paste, paste-zero}
+use lib.ListN.{length-set}
+use lib.Seq.{paste-zero}
 use Rattle.reason_numbers.proofs.Laws.{put-more, put_all}
 use Rattle.reason_numbers.proofs.put_numbers.Goals as goal
 

@@ -1,5 +1,4 @@
 -- `reason_numbers::put_reason` meets its contract.
-use borrow.Author.Rules.{rules}
 use Rattle.reason_numbers.proofs.Laws.{over-other, over-nine}
 use Rattle.reason_numbers.proofs.put_reason.Goals as goal
 

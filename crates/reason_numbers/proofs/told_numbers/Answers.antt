@@ -1,5 +1,4 @@
 -- `reason_numbers::told_numbers` meets its contract, by the variant of the answer.
-use borrow.Author.Rules.{rules}
 use Rattle.reason_numbers.specs.Numbers.{told_numbers}
 use Rattle.reason_numbers.proofs.told_numbers.Goals as goal
 

@@ -1,6 +1,5 @@
 -- `rule_cells::cell_of` meets its contract: its number is small, and past the cells it is 0.
-use borrow.Author.Rules.{rules}
-use mathlib.Core.Path.{◌≡◌, refl, sym, ap, ◌∙◌}
+use mathlib.Core.Path.{sym, ◌∙◌}
 use native.Mathlib.Omega.{arith}
 use Prim.Native.Nat.{◌+◌, ◌*◌}
 use lib.ListN.{get_or-eq_default}

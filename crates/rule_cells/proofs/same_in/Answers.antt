@@ -1,5 +1,4 @@
 -- `rule_cells::same_in` meets its contract: its texts are where their cells say.
-use borrow.Author.Rules.{rules}
 use Rattle.rule_cells.specs.Cells.{same_text, text_of}
 use Rattle.rule_cells.proofs.same_in.Goals as goal
 

@@ -1,6 +1,5 @@
 -- `rule_cells::start_of` meets its contract: past the last cell of a record there is none.
-use borrow.Author.Rules.{rules}
-use mathlib.Core.Path.{◌≡◌, refl, sym, ap, ◌∙◌}
+use mathlib.Core.Path.{sym}
 use native.Mathlib.Omega.{arith}
 use Rattle.rule_cells.specs.Cells.{start_of}
 use Rattle.rule_cells.proofs.Laws.{cell-none}

@@ -1,5 +1,4 @@
 -- `rule_hours::all_given` meets its contract: its shape is the one that its definition says.
-use borrow.Author.Rules.{rules}
 use Rattle.rule_hours.specs.Hours.{all_given_rule, breaks}
 use Rattle.rule_hours.proofs.all_given.Goals as goal
 

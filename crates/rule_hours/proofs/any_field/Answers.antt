@@ -1,5 +1,4 @@
 -- `rule_hours::any_field` meets its contract: the first such field stands before the end.
-use borrow.Author.Rules.{rules}
 use Rattle.rule_hours.specs.Hours.{any_field}
 use Rattle.rule_hours.proofs.any_field.Goals as goal
 

@@ -1,12 +1,9 @@
 -- `rule_hours::first_broken` meets its contract: what is left of the search at the loop's head answers as the whole does.
-use borrow.Author.Rules.{rules}
 use Prim.Native.Nat.{◌-◌}
-use mathlib.Core.Path.{◌≡◌, sym, ◌∙◌}
+use mathlib.Core.Path.{sym, ◌∙◌}
 use native.Mathlib.Nat.{sub-zero}
-use native.Mathlib.Omega.{arith}
-use Rattle.rule_cells.specs.Cells.{table, first_from, first_that}
+use Rattle.rule_cells.specs.Cells.{first_that}
 use Rattle.rule_cells.proofs.Laws.{search-hits, search-goes-on, search-ends}
-use Rattle.rule_hours.specs.Hours.{breaks}
 use Rattle.rule_hours.proofs.first_broken.Goals as goal
 
 pub loop-r-init : goal.loop-r-init

@@ -1,12 +1,9 @@
 -- `rule_hours::first_field` meets its contract: what is left of the search at the loop's head answers as the whole does.
-use borrow.Author.Rules.{rules}
 use Prim.Native.Nat.{◌-◌}
-use mathlib.Core.Path.{◌≡◌, refl, sym, ◌∙◌}
-use native.Mathlib.Omega.{arith}
+use mathlib.Core.Path.{◌≡◌}
 use Rattle.rule_cells.specs.Cells.{table}
 use Rattle.rule_hours.specs.Hours.{field_from, first_field_that}
 use Rattle.rule_hours.specs.Asked.{passes}
-use Rattle.rule_hours.proofs.Laws.{field-hits, field-goes-on, field-ends}
 use Rattle.rule_hours.proofs.first_field.Given as goal
 
 abbrev pub invariant-loop-k : goal.invariant-loop-k

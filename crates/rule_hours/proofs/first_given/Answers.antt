@@ -1,5 +1,4 @@
 -- `rule_hours::first_given` meets its contract: what is asked is what its definition says.
-use borrow.Author.Rules.{rules}
 use Rattle.rule_hours.specs.Asked.{passes}
 use Rattle.rule_hours.proofs.first_given.Goals as goal
 

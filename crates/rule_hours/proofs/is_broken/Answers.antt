@@ -1,5 +1,4 @@
 -- `rule_hours::is_broken` meets its contract: each shape is the one that its definition says.
-use borrow.Author.Rules.{rules}
 use mathlib.Core.Bool.{not}
 use mathlib.Core.Path.{ap, sym, ◌∙◌}
 use Rattle.rule_hours.specs.Hours.{breaks}

@@ -1,5 +1,4 @@
 -- `rule_hours::is_so` meets its contract: each thing asked is the one that its definition says.
-use borrow.Author.Rules.{rules}
 use mathlib.Core.Bool.{not}
 use mathlib.Core.Path.{ap, ◌∙◌}
 use Rattle.rule_hours.specs.Hours.{below_zero, above_zero, lies_below, is_above, is_null}

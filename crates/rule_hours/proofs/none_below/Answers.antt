@@ -1,5 +1,4 @@
 -- `rule_hours::none_below` meets its contract: its shape is the one that its definition says.
-use borrow.Author.Rules.{rules}
 use Rattle.rule_cells.specs.Cells.{sign_in}
 use Rattle.rule_hours.specs.Hours.{none_below_rule, lies_below, breaks}
 use Rattle.rule_hours.proofs.none_below.Goals as goal

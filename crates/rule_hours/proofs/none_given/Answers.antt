@@ -1,5 +1,4 @@
 -- `rule_hours::none_given` meets its contract: its shape is the one that its definition says.
-use borrow.Author.Rules.{rules}
 use Rattle.rule_hours.specs.Hours.{none_given_rule, breaks}
 use Rattle.rule_hours.proofs.none_given.Goals as goal
 

@@ -1,5 +1,4 @@
 -- `rule_hours::some_above` meets its contract: its shape is the one that its definition says.
-use borrow.Author.Rules.{rules}
 use Rattle.rule_cells.specs.Cells.{sign_in}
 use Rattle.rule_hours.specs.Hours.{some_above_rule, is_above, breaks}
 use Rattle.rule_hours.proofs.some_above.Goals as goal

@@ -1,5 +1,4 @@
 -- `rule_hours::together` meets its contract: its shape is the one that its definition says.
-use borrow.Author.Rules.{rules}
 use Rattle.rule_hours.specs.Hours.{together_rule, breaks}
 use Rattle.rule_hours.proofs.together.Goals as goal
 

@@ -1,11 +1,7 @@
 -- `rule_key::earliest_same` meets its contract: what is left of the search at the loop's head answers as the whole does.
-use borrow.Author.Rules.{rules}
-use mathlib.Core.Path.{◌≡◌, sym, ◌∙◌}
-use native.Mathlib.Omega.{arith}
+use mathlib.Core.Path.{sym, ◌∙◌}
 use Prim.Native.Nat.{◌-◌}
-use Rattle.rule_cells.specs.Cells.{table}
-use Rattle.rule_key.specs.Key.{earliest}
-use Rattle.rule_key.proofs.Compare.{earliest_from, same-starts, same-hits, same-goes-on, same_ends}
+use Rattle.rule_key.proofs.Compare.{same-starts, same-hits, same-goes-on, same_ends}
 use Rattle.rule_key.proofs.earliest_same.Goals as goal
 
 pub loop-j-init : goal.loop-j-init

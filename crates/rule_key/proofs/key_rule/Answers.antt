@@ -1,11 +1,7 @@
 -- `rule_key::key_rule` meets its contract: what is left of the search at the loop's head answers as the whole does.
-use borrow.Author.Rules.{rules}
-use mathlib.Core.Path.{◌≡◌, sym, ◌∙◌}
-use native.Mathlib.Omega.{arith}
+use mathlib.Core.Path.{sym, ◌∙◌}
 use Prim.Native.Nat.{◌-◌}
-use Rattle.rule_cells.specs.Cells.{table, first_that}
-use Rattle.rule_key.specs.Key.{repeats}
-use Rattle.rule_key.proofs.Compare.{rule_from, earliest-any, rule-starts, rule-hits, rule-goes-on, rule-ends}
+use Rattle.rule_key.proofs.Compare.{earliest-any, rule-starts, rule-hits, rule-goes-on, rule-ends}
 use Rattle.rule_key.proofs.key_rule.Goals as goal
 
 pub loop-i-init : goal.loop-i-init

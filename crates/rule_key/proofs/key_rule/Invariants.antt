@@ -1,11 +1,9 @@
 -- `rule_key::key_rule` meets its contract: what is left of the search at the loop's head answers as the whole does.
-use borrow.Author.Rules.{rules}
-use mathlib.Core.Path.{◌≡◌, sym, ◌∙◌}
-use native.Mathlib.Omega.{arith}
+use mathlib.Core.Path.{◌≡◌}
 use Prim.Native.Nat.{◌-◌}
 use Rattle.rule_cells.specs.Cells.{table, first_that}
 use Rattle.rule_key.specs.Key.{repeats}
-use Rattle.rule_key.proofs.Compare.{rule_from, earliest-any, rule-starts, rule-hits, rule-goes-on, rule-ends}
+use Rattle.rule_key.proofs.Compare.{rule_from}
 use Rattle.rule_key.proofs.key_rule.Given as goal
 
 abbrev pub invariant-loop-i : goal.invariant-loop-i

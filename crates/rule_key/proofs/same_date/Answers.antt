@@ -1,5 +1,4 @@
 -- `rule_key::same_date` meets its contract: by cases on the two values.
-use borrow.Author.Rules.{rules}
 use mathlib.Core.Path.{refl}
 use Rattle.rule_key.specs.Key.{same_date}
 use Rattle.rule_key.proofs.Compare.{dates-are}

@@ -1,5 +1,4 @@
 -- `rule_key::same_field` meets its contract: the tests that led to each answer decide the definition.
-use borrow.Author.Rules.{rules}
 use borrow.Author.Tests.{eq-eqb, ne_eqb}
 use Rattle.rule_key.specs.Key.{same_field}
 use Rattle.rule_key.proofs.same_field.Goals as goal

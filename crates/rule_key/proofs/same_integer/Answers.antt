@@ -1,5 +1,4 @@
 -- `rule_key::same_integer` meets its contract: by cases on the two values.
-use borrow.Author.Rules.{rules}
 use Rattle.rule_key.specs.Key.{same_integer}
 use Rattle.rule_key.proofs.Compare.{no-integer, integer-no, integers-are}
 use Rattle.rule_key.proofs.same_integer.Goals as goal

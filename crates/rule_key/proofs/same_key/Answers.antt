@@ -1,7 +1,5 @@
 -- `rule_key::same_key` meets its contract: the first field that differs decides.
-use borrow.Author.Rules.{rules}
 use mathlib.Core.Path.{sym, ◌∙◌}
-use borrow.Author.Tests.{not-true, not-false}
 use Rattle.rule_key.proofs.Compare.{differ-a, differ-b, left-c}
 use Rattle.rule_key.proofs.same_key.Goals as goal
 

@@ -1,7 +1,5 @@
 -- `rule_when::holds_when` meets its contract: the tests that led to each answer decide the definition.
-use borrow.Author.Rules.{rules}
-use mathlib.Core.Path.{◌≡◌, refl, sym, ap, ◌∙◌}
-use borrow.Author.Tests.{eq-eqb, ne_eqb, lt-ltb, le-ltb, le-leb, lt-leb}
+use borrow.Author.Tests.{eq-eqb, ne_eqb}
 use Rattle.rule_when.specs.When.{holds_when}
 use Rattle.rule_when.proofs.holds_when.Goals as goal
 

@@ -1,7 +1,5 @@
 -- `rule_when::is_either` meets its contract: the tests that led to each answer decide the definition.
-use borrow.Author.Rules.{rules}
-use mathlib.Core.Path.{◌≡◌, refl, sym, ap, ◌∙◌}
-use borrow.Author.Tests.{eq-eqb, ne_eqb, lt-ltb, le-ltb, le-leb, lt-leb}
+use mathlib.Core.Path.{sym, ◌∙◌}
 use Rattle.rule_when.proofs.is_either.Goals as goal
 
 pub returns-then-is_value : goal.returns-then-is_value

@@ -1,7 +1,4 @@
 -- `rule_when::is_value` meets its contract: the value is the part of the texts that its places name.
-use borrow.Author.Rules.{rules}
-use mathlib.Core.Path.{◌≡◌, refl, sym, ap, ◌∙◌}
-use borrow.Author.Tests.{eq-eqb, ne_eqb, lt-ltb, le-ltb, le-leb, lt-leb}
 use Rattle.table_rows.specs.Rows.{value_text_at}
 use Rattle.rule_when.specs.When.{is_value}
 use Rattle.rule_when.proofs.is_value.Goals as goal

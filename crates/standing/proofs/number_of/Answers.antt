@@ -2,7 +2,6 @@
 -- Assumes nothing.
 use mathlib.Core.Path.{refl}
 use native.Mathlib.Omega.{arith}
-use borrow.Author.Rules.{rules}
 use Rattle.standing.specs.Standing.{number_of}
 use Rattle.standing.proofs.Laws.{number_past}
 use Rattle.standing.proofs.number_of.Goals as goal

@@ -1,7 +1,6 @@
 -- `standing::part_standing` meets its contract, for each slice that can hold the file and where none does.
 -- Assumes nothing.
 use mathlib.Core.Path.{sym, ◌∙◌}
-use borrow.Author.Rules.{rules}
 use Rattle.standing.proofs.Laws.{slice_first, slice-second, slice-third, bytes-nowhere, bytes-there}
 use Rattle.standing.proofs.part_standing.Goals as goal
 

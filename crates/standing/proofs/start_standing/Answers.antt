@@ -1,7 +1,6 @@
 -- `standing::start_standing` meets its contract: the slice ends before the place that the list has, or not.
 -- Assumes nothing.
 use native.Mathlib.Omega.{arith}
-use borrow.Author.Rules.{rules}
 use Rattle.standing.proofs.Laws.{starts-past, starts-within}
 use Rattle.standing.proofs.start_standing.Goals as goal
 

@@ -1,13 +1,11 @@
 -- `table_name::decoded_name` meets its contract: the characters put down and those left are those of the name.
 use Prim.Native.Nat.{◌-◌}
-use mathlib.Core.Path.{◌≡◌, refl, sym, ap, ◌∙◌}
+use mathlib.Core.Path.{refl, sym, ◌∙◌}
 use native.Mathlib.Omega.{arith}
-use borrow.Author.Rules.{rules}
-use lib.ListN.{length}
 use lib.Dec.{lit<}
 use Rattle.json_bytes.proofs.Laws.{inside}
 use Rattle.table_name.proofs.Words.{name-decoded}
-use Rattle.table_name.proofs.Spelling.{Spelled, spell-start, spell-goes-on, spell-more, spell-inside, spell-whole, spell-chars, spell-length}
+use Rattle.table_name.proofs.Spelling.{spell-start, spell-goes-on, spell-more, spell-inside, spell-whole, spell-chars, spell-length}
 use Rattle.table_name.proofs.decoded_name.Goals as goal
 
 pub returns-then-byte_at-ne34 : goal.returns-then-byte_at-ne34

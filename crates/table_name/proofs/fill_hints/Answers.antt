@@ -1,9 +1,7 @@
 -- `table_name::fill_hints` meets its contract: at the loop's head the hints are those of the fields passed.
-use Prim.Native.Nat.{◌-◌, ◌≤◌}
-use mathlib.Core.Path.{◌≡◌, refl, ◌∙◌}
+use Prim.Native.Nat.{◌-◌}
+use mathlib.Core.Path.{refl, ◌∙◌}
 use native.Mathlib.Omega.{arith}
-use lib.ListN.{length}
-use borrow.Author.Rules.{rules}
 use Rattle.table_name.specs.Hints.{hints_of}
 use Rattle.table_name.proofs.Hints.{hints-more, hints-all}
 use Rattle.table_name.proofs.fill_hints.Goals as goal

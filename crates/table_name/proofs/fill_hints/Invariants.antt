@@ -1,11 +1,8 @@
 -- `table_name::fill_hints` meets its contract: at the loop's head the hints are those of the fields passed.
 use Prim.Native.Nat.{◌-◌, ◌≤◌}
-use mathlib.Core.Path.{◌≡◌, refl, ◌∙◌}
-use native.Mathlib.Omega.{arith}
+use mathlib.Core.Path.{◌≡◌}
 use lib.ListN.{length}
-use borrow.Author.Rules.{rules}
 use Rattle.table_name.specs.Hints.{hints_of}
-use Rattle.table_name.proofs.Hints.{hints-more, hints-all}
 use Rattle.table_name.proofs.fill_hints.Given as goal
 
 abbrev pub invariant-loop-k : goal.invariant-loop-k

@@ -1,7 +1,5 @@
 -- `table_name::first_in` meets its contract: the tests that led to each answer decide the definition.
-use borrow.Author.Rules.{rules}
-use mathlib.Core.Path.{◌≡◌, refl, sym, ap, ◌∙◌}
-use borrow.Author.Tests.{eq-eqb, ne_eqb, lt-ltb, le-ltb, le-leb, lt-leb}
+use borrow.Author.Tests.{eq-eqb, ne_eqb, lt-ltb, le-ltb}
 use Rattle.table_name.specs.Name.{first_in}
 use Rattle.table_name.proofs.first_in.Goals as goal
 

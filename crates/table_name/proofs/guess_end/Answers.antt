@@ -1,7 +1,6 @@
 -- `table_name::guess_end` meets its contract: a field that has a name has a row, and that part of the names is its name.
 use native.Mathlib.Omega.{arith}
 use mathlib.Core.Path.{refl, sym}
-use borrow.Author.Rules.{rules}
 use Rattle.parts.proofs.Laws.{part-is}
 use Rattle.table_rows.specs.Rows.{cell_at}
 use Rattle.table_name.proofs.Guess.{placed, guess-told}

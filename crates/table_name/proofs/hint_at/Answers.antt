@@ -1,6 +1,5 @@
 -- `table_name::hint_at` meets its contract: the tests that led to each answer decide the definition.
 use native.Mathlib.Omega.{arith}
-use borrow.Author.Rules.{rules}
 use Rattle.table_name.proofs.Hints.{hint-past, hint-none, hint-read}
 use Rattle.table_name.proofs.hint_at.Goals as goal
 

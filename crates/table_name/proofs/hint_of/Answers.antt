@@ -1,6 +1,5 @@
 -- `table_name::hint_of` meets its contract: it is the definition's sum, which fits.
 use mathlib.Core.Path.{refl}
-use borrow.Author.Rules.{rules}
 use Rattle.table_name.specs.Hints.{hint_of}
 use Rattle.table_name.proofs.hint_of.Goals as goal
 

@@ -1,12 +1,8 @@
 -- `table_name::index_of` meets its contract: what is left of the search at the loop's head answers as the whole does.
-use borrow.Author.Rules.{rules}
-use mathlib.Core.Path.{◌≡◌, refl, sym, ap, ◌∙◌}
+use mathlib.Core.Path.{sym, ◌∙◌}
 use native.Mathlib.Omega.{arith}
-use Prim.Native.Nat.{◌+◌, ◌-◌, ◌≤◌}
+use Prim.Native.Nat.{◌-◌}
 use native.Mathlib.Nat.{sub-zero, zero-add}
-use Rattle.json_chars.specs.Chars.{chars_at}
-use Rattle.table_rows.specs.Rows.{fields_from}
-use Rattle.table_name.specs.Name.{index_of}
 use Rattle.table_name.proofs.Laws.{name-told, index-more, index-found, index-none}
 use Rattle.table_name.proofs.index_of.Goals as goal
 

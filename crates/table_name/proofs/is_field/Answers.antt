@@ -3,7 +3,6 @@ use Prim.Native.Nat.{ℕ, ◌+◌, ◌<◌, ◌^◌}
 use native.Mathlib.Omega.{arith}
 use mir.Syntax.{w32, w64}
 use mir.Val.{Fits}
-use borrow.Author.Rules.{rules}
 use Rattle.table_name.proofs.Words.{place-fits, row-none, row_apart, row-compared}
 use Rattle.table_name.proofs.is_field.Goals as goal
 

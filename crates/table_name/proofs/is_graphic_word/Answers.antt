@@ -1,6 +1,5 @@
 -- `table_name::is_graphic_word` meets its contract: the run of its first bytes is the whole word, or ends before it.
 use mathlib.Core.Path.{sym}
-use borrow.Author.Rules.{rules}
 use Rattle.table_name.proofs.Guess.{graphic-empty, graphic-told}
 use Rattle.table_name.proofs.is_graphic_word.Goals as goal
 

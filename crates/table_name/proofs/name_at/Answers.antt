@@ -1,6 +1,5 @@
 -- `table_name::name_at` meets its contract: a plain name is looked for by its bytes, any other by its characters.
-use borrow.Author.Rules.{rules}
-use mathlib.Core.Path.{◌≡◌, refl, sym, ap, ◌∙◌}
+use mathlib.Core.Path.{refl}
 use native.Mathlib.Omega.{arith}
 use Rattle.json_text.proofs.Plain.{plain-inside}
 use Rattle.table_name.proofs.Words.{plain_word, name-plain}

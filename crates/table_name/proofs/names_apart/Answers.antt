@@ -1,9 +1,7 @@
 -- `table_name::names_apart` meets its contract: what is left to test at the loop's head answers as the whole does.
-use mathlib.Core.Path.{◌≡◌, refl, sym, ◌∙◌}
+use mathlib.Core.Path.{refl, sym, ◌∙◌}
 use native.Mathlib.Omega.{arith}
-use borrow.Author.Rules.{rules}
-use borrow.Author.Tests.{not-true, not-false}
-use Rattle.table_name.specs.Guess.{own_below, names_apart}
+use Rattle.table_name.specs.Guess.{names_apart}
 use Rattle.table_name.proofs.Guess.{below_more, below_fails, below_none}
 use Rattle.table_name.proofs.names_apart.Goals as goal
 

@@ -1,6 +1,5 @@
 -- `table_name::own_name` meets its contract: the tests that led to each answer decide the definition.
 use mathlib.Core.Path.{sym, ◌∙◌}
-use borrow.Author.Rules.{rules}
 use Rattle.table_name.proofs.Guess.{graphic-some, own-told, own-dim}
 use Rattle.table_name.proofs.own_name.Goals as goal
 

@@ -1,5 +1,4 @@
 -- `table_name::put_hint` meets its contract: a name that is too short or has no place puts nothing, and any other its number.
-use borrow.Author.Rules.{rules}
 use Rattle.table_name.proofs.Hints.{hint-short, hint-out, hint-put}
 use Rattle.table_name.proofs.put_hint.Goals as goal
 

@@ -1,7 +1,6 @@
 -- `table_name::quoted_end` meets its contract: the tests that led to each answer decide the definition.
 use mathlib.Core.Path.{sym, ◌∙◌}
 use native.Mathlib.Omega.{arith}
-use borrow.Author.Rules.{rules}
 use Rattle.parts.proofs.Laws.{part-is}
 use Rattle.table_name.proofs.Guess.{quoted-past, quoted-unopened, quoted-goes-on, quoted-same, quoted-other}
 use Rattle.table_name.proofs.quoted_end.Goals as goal

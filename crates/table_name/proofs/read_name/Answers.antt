@@ -1,6 +1,5 @@
 -- `table_name::read_name` meets its contract: the name is read whole and then looked for.
-use borrow.Author.Rules.{rules}
-use mathlib.Core.Path.{◌≡◌, refl, sym, ap, ◌∙◌}
+use mathlib.Core.Path.{sym}
 use Rattle.table_name.proofs.Laws.{name-bad}
 use Rattle.table_name.proofs.Words.{name-read}
 use Rattle.table_name.proofs.read_name.Goals as goal

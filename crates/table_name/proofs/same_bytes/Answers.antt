@@ -1,6 +1,5 @@
 -- `table_name::same_bytes` meets its contract: few bytes are compared one by one, more of them eight at a time.
 use mathlib.Core.Path.{sym}
-use borrow.Author.Rules.{rules}
 use Rattle.table_name.proofs.Words.{same-longer}
 use Rattle.table_name.proofs.same_bytes.Goals as goal
 

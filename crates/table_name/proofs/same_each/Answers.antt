@@ -1,9 +1,7 @@
 -- `table_name::same_each` meets its contract: what is left to compare at the loop's head answers as the whole does.
-use mathlib.Core.Path.{◌≡◌, refl, sym, ◌∙◌}
+use mathlib.Core.Path.{refl, sym, ◌∙◌}
 use native.Mathlib.Omega.{arith}
 use Prim.Native.Nat.{◌-◌}
-use lib.ListN.{length, drop}
-use Rattle.json_same.specs.Same.{same_list}
 use Rattle.table_name.proofs.Words.{same-longer, same_more, same_differs, same_ends}
 use Rattle.table_name.proofs.same_each.Goals as goal
 

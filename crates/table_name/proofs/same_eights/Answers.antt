@@ -3,8 +3,7 @@ use Prim.Native.Nat.{◌-◌}
 use mathlib.Core.Path.{sym, ◌∙◌}
 use native.Mathlib.Omega.{arith}
 use native.Mathlib.Nat.{not-suc-le-zero}
-use borrow.Author.Rules.{rules}
-use Rattle.table_name.proofs.Eights.{Alike, alike-more, eights-differ, eights-told}
+use Rattle.table_name.proofs.Eights.{alike-more, eights-differ, eights-told}
 use Rattle.table_name.proofs.same_eights.Goals as goal
 
 pub loop-i-init : goal.loop-i-init

@@ -1,10 +1,6 @@
 -- `table_name::same_eights` meets its contract: the eights passed are equal, and the last eight decide it.
 use Prim.Native.Nat.{◌-◌}
-use mathlib.Core.Path.{sym, ◌∙◌}
-use native.Mathlib.Omega.{arith}
-use native.Mathlib.Nat.{not-suc-le-zero}
-use borrow.Author.Rules.{rules}
-use Rattle.table_name.proofs.Eights.{Alike, alike-more, eights-differ, eights-told}
+use Rattle.table_name.proofs.Eights.{Alike}
 use Rattle.table_name.proofs.same_eights.Given as goal
 
 abbrev pub invariant-loop-i : goal.invariant-loop-i

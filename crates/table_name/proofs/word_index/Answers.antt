@@ -1,11 +1,8 @@
 -- `table_name::word_index` meets its contract: what is left of the search at the loop's head answers as the whole does.
-use borrow.Author.Rules.{rules}
-use mathlib.Core.Path.{◌≡◌, sym, ◌∙◌}
+use mathlib.Core.Path.{sym, ◌∙◌}
 use native.Mathlib.Omega.{arith}
-use Prim.Native.Nat.{◌+◌, ◌-◌, ◌≤◌}
+use Prim.Native.Nat.{◌-◌}
 use native.Mathlib.Nat.{sub-zero, zero-add}
-use Rattle.table_rows.specs.Rows.{fields_from}
-use Rattle.table_name.specs.Name.{index_of}
 use Rattle.table_name.proofs.Laws.{field_told, index-more, index-found, index-none}
 use Rattle.table_name.proofs.word_index.Goals as goal
 

@@ -1,12 +1,8 @@
 -- `table_name::word_index` meets its contract: what is left of the search at the loop's head answers as the whole does.
-use borrow.Author.Rules.{rules}
-use mathlib.Core.Path.{◌≡◌, sym, ◌∙◌}
-use native.Mathlib.Omega.{arith}
+use mathlib.Core.Path.{◌≡◌}
 use Prim.Native.Nat.{◌+◌, ◌-◌, ◌≤◌}
-use native.Mathlib.Nat.{sub-zero, zero-add}
 use Rattle.table_rows.specs.Rows.{fields_from}
 use Rattle.table_name.specs.Name.{index_of}
-use Rattle.table_name.proofs.Laws.{field_told, index-more, index-found, index-none}
 use Rattle.table_name.proofs.word_index.Given as goal
 
 abbrev pub invariant-loop-k : goal.invariant-loop-k

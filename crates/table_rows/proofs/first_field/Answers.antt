@@ -1,5 +1,4 @@
 -- `table_rows::first_field` meets its contract: the rows before the first of a table are a run of others.
-use borrow.Author.Rules.{rules}
 use Rattle.table_rows.specs.Rows.{first_field}
 use Rattle.table_rows.specs.Run.{counts}
 use Rattle.table_rows.proofs.first_field.Goals as goal

@@ -1,7 +1,6 @@
 -- `table_rows::is_nullable` meets its contract, as a test of what `cell_at` gives.
 use mathlib.Core.Path.{ap}
 use lib.Dec.{eqb}
-use borrow.Author.Rules.{rules}
 use Rattle.table_rows.proofs.is_nullable.Goals as goal
 
 pub returns : goal.returns

@@ -1,6 +1,5 @@
 -- `table_rows::rows_after` meets its contract: past the rows nothing is left.
 use mathlib.Core.Path.{sym}
-use borrow.Author.Rules.{rules}
 use Rattle.table_rows.proofs.Laws.{rows-past, rows-rest}
 use Rattle.table_rows.proofs.rows_after.Goals as goal
 

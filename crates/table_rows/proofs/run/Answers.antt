@@ -1,13 +1,7 @@
 -- `table_rows::run` meets its contract: the run that is left at the loop's head, with the rows passed, is the whole run.
-use Prim.Native.Nat.{ℕ, ◌+◌, ◌-◌, ◌≤◌}
+use Prim.Native.Nat.{ℕ, ◌+◌, ◌-◌}
 use mathlib.Core.Path.{◌≡◌, refl, sym, ◌∙◌}
 use native.Mathlib.Omega.{arith}
-use lib.ListN.{drop}
-use borrow.Author.Rules.{rules}
-use borrow.Author.Tests.{not-true, not-false}
-use Rattle.json_bytes.specs.Reads.{leading}
-use Rattle.table_rows.specs.Rows.{tables_in}
-use Rattle.table_rows.specs.Run.{counts}
 use Rattle.table_rows.proofs.Laws.{row_counts, row-stops, rows_end}
 use Rattle.table_rows.proofs.run.Goals as goal
 

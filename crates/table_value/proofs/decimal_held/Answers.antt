@@ -1,7 +1,4 @@
 -- `table_value::decimal_held` meets its contract: the tests that led to each answer decide the definition.
-use borrow.Author.Rules.{rules}
-use mathlib.Core.Path.{◌≡◌, refl, sym, ap, ◌∙◌}
-use borrow.Author.Tests.{eq-eqb, ne_eqb, lt-ltb, le-ltb, le-leb, lt-leb}
 use Rattle.table_value.specs.Value.{decimal_held}
 use Rattle.table_value.proofs.decimal_held.Goals as goal
 

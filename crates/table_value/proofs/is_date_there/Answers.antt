@@ -1,5 +1,4 @@
 -- `table_value::is_date_there` meets its contract: the tests that led to each answer decide it.
-use borrow.Author.Rules.{rules}
 use borrow.Author.Tests.{eq-eqb, ne_eqb}
 use Rattle.table_value.proofs.is_date_there.Goals as goal
 

@@ -1,7 +1,5 @@
 -- `table_value::literal_in` meets its contract: the tests that led to each answer decide the definition.
-use borrow.Author.Rules.{rules}
-use mathlib.Core.Path.{◌≡◌, refl, sym, ap, ◌∙◌}
-use borrow.Author.Tests.{eq-eqb, ne_eqb, lt-ltb, le-ltb, le-leb, lt-leb}
+use borrow.Author.Tests.{eq-eqb, ne_eqb}
 use Rattle.table_value.specs.Value.{literal_in}
 use Rattle.table_value.proofs.literal_in.Goals as goal
 

@@ -1,5 +1,4 @@
 -- `table_value::not_object_at` meets its contract: the tests that led to each answer decide the definition.
-use borrow.Author.Rules.{rules}
 use mathlib.Core.Path.{sym, ◌∙◌}
 use Rattle.table_value.specs.Value.{not_object_of, not_object_at}
 use Rattle.table_value.proofs.not_object_at.Goals as goal

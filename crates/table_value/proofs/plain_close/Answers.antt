@@ -1,6 +1,5 @@
 -- `table_value::plain_close` meets its contract: 0 promises nothing.
 use native.Mathlib.Omega.{arith}
-use borrow.Author.Rules.{rules}
 use Rattle.table_value.proofs.plain_close.Goals as goal
 
 pub returns-then-ty-eq-STRING : goal.returns-then-ty-eq-STRING

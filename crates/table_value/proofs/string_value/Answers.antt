@@ -1,7 +1,7 @@
 -- `table_value::string_value` meets its contract: a date as it stands is held, a plain string is read whole and breaks no
 -- rule; for any other the tests that led to each answer decide the definition.
 use borrow.Author.Rules.{rules}
-use mathlib.Core.Path.{◌≡◌, refl, sym, ap, ◌∙◌}
+use mathlib.Core.Path.{sym, ◌∙◌}
 use native.Mathlib.Omega.{arith}
 use Rattle.json_text.proofs.Plain.{plain-inside, plain-read}
 use Rattle.table_value.specs.Value.{text_type, string_value}

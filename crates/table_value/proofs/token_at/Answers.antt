@@ -1,5 +1,4 @@
 -- `table_value::token_at` meets its contract: the tests that led to each answer decide the definition.
-use borrow.Author.Rules.{rules}
 use mathlib.Core.Path.{sym, ap, ◌∙◌}
 use borrow.Author.Tests.{eq-eqb, ne_eqb}
 use Rattle.json_text.specs.Text.{text_read}

@@ -1,5 +1,4 @@
 -- `text_place::is_continuation` meets its contract.
-use borrow.Author.Rules.{rules}
 use Rattle.text_place.specs.Place.{is_continuation}
 use Rattle.text_place.proofs.is_continuation.Goals as goal
 

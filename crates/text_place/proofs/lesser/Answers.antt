@@ -1,5 +1,4 @@
 -- `text_place::lesser` meets its contract: the test that led to each answer decides the definition.
-use mathlib.Core.Path.{refl}
 use native.Mathlib.Omega.{arith}
 use borrow.Author.Tests.{lt-ltb, le-ltb}
 use Rattle.text_place.proofs.lesser.Goals as goal

@@ -1,10 +1,9 @@
 -- `text_place::line_and_column` meets its contract. The walk keeps the spot behind the bytes that it has passed.
-use Prim.Native.Nat.{◌+◌, ◌-◌, ◌≤◌}
+use Prim.Native.Nat.{◌-◌}
 use mathlib.Core.Path.{◌≡◌, sym, ap, ◌∙◌}
 use native.Mathlib.Omega.{arith}
-use borrow.Author.Rules.{rules}
 use Rattle.text_place.specs.Place.{spot_behind, spot_at}
-use Rattle.text_place.proofs.Laws.{Behind, at-start, feed-passed, rest-passed, first-passed, spot_is}
+use Rattle.text_place.proofs.Laws.{at-start, feed-passed, rest-passed, first-passed, spot_is}
 use Rattle.text_place.proofs.line_and_column.Goals as goal
 
 pub loop-i-init : goal.loop-i-init
