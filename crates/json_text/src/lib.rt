@@ -77,6 +77,7 @@ fn in_runs(runs: &[[u32; 2]], c: u32) -> bool
 }
 
 // The type chooses the set.
+#[tactic(auto, unfolding(crate::specs::Text::is_white, crate::specs::Text::spaces_of, crate::specs::Text::in_runs))]
 fn is_white(ty: TextType, c: u32) -> bool
     ensures { result ≡ is_white ty c }
 {

@@ -251,6 +251,7 @@ pub fn names_apart(rows: &[u32], names: &[u8], count: usize) -> bool
 
 // The place behind a word that stands between two quotes, the first of them at `at`; 0 where it does not stand
 // there. The quotes are cheaper than the bytes and are tested first.
+#[tactic(auto, unfolding(crate::specs::Guess::quoted_end))]
 pub fn quoted_end(s: &[u8], at: usize, word: &[u8]) -> usize
     ensures { result ≡ quoted_end word.now s.now at }
 {
@@ -260,7 +261,7 @@ pub fn quoted_end(s: &[u8], at: usize, word: &[u8]) -> usize
     if s.len() - at - 1 <= word.len() {
         return 0;
     }
-    if s[at] != b'"' {
+    if s[close] != b'"' {
         return 0;
     }
     let from = at + 1;
