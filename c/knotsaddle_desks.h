@@ -1,5 +1,5 @@
 /* Two desks that share one set of calendars, for C: judge a desk, try a change, make it. It goes with the static library that
- * `rt staticlib desks_c` writes. Bundles, boards, the workspace, the stack, threads and pointers are as knotsaddle.h has them; a
+ * `c/build desks_c` writes. Bundles, boards, the workspace, the stack, threads and pointers are as knotsaddle.h has them; a
  * board is one of KNOTSADDLE_SCHEDULE.
  *
  *     knotsaddle_desks desks;

@@ -1,4 +1,4 @@
-/* The drawer for C: a set that stays in one place and is changed there. It goes with the static library that `rt staticlib drawer_c`
+/* The drawer for C: a set that stays in one place and is changed there. It goes with the static library that `c/build drawer_c`
  * writes. Bundles, boards, the workspace, threads and pointers are as knotsaddle.h has them; a board is one of KNOTSADDLE_SCHEDULE.
  *
  *     uint8_t drawer[5000];

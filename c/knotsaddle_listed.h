@@ -1,5 +1,5 @@
 /* The calls with a list of entries, for C: judge a bundle, try a change, make it, and have beside the marks a lookup of the records that
- * were read; and the plain engine. It goes with the static library that `rt staticlib listed_c` writes. Bundles, boards, threads and
+ * were read; and the plain engine. It goes with the static library that `c/build listed_c` writes. Bundles, boards, threads and
  * pointers are as knotsaddle.h has them; a board is one of KNOTSADDLE_SCHEDULE.
  *
  *     knotsaddle_entry list[1000];

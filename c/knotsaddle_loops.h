@@ -1,4 +1,4 @@
-/* A loop of links for C: tasks that wait for themselves. It goes with the static library that `rt staticlib loops_c` writes. Bundles,
+/* A loop of links for C: tasks that wait for themselves. It goes with the static library that `c/build loops_c` writes. Bundles,
  * threads and pointers are as knotsaddle.h has them.
  *
  *     uint32_t list[KNOTSADDLE_LOOPS_LIST];

@@ -1,5 +1,5 @@
 /* The quarter for C: exact totals of assigned dollars and hours by element of cost over up to 256 sets. It goes with the static
- * library that `rt staticlib quarter_c` writes. Bundles, the workspace, threads and pointers are as knotsaddle.h has them.
+ * library that `c/build quarter_c` writes. Bundles, the workspace, threads and pointers are as knotsaddle.h has them.
  *
  *     knotsaddle_quarter quarter = {0};
  *     knotsaddle_grand grand;

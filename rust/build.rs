@@ -1,4 +1,4 @@
-// Links the static libraries that c/libraries names and `rt staticlib NAME` writes, from the folder that KNOTSADDLE_LIB_DIR
+// Links the static libraries that c/libraries names and `c/build NAME` writes, from the folder that KNOTSADDLE_LIB_DIR
 // names, or else from target/staticlib beside this folder: gate_c, and of the others those that are there.
 use std::env;
 use std::path::PathBuf;

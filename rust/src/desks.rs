@@ -1,6 +1,6 @@
 //! Two desks that share one set of calendars: judge a desk on its joined set, try a change, make it.
 //!
-//! It stands on the static library that `rt staticlib desks_c` writes. `c/knotsaddle_desks.h` says which files each bundle
+//! It stands on the static library that `c/build desks_c` writes. `c/knotsaddle_desks.h` says which files each bundle
 //! holds, and in which order a desk is refused. As beside it, a call gets a workspace from the heap, or takes one that is lent.
 
 use crate::{answer, workspace, Board, Gate, Refusal};

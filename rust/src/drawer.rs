@@ -1,6 +1,6 @@
 //! The drawer: a set that stays in one place and is changed there.
 //!
-//! It stands on the static library that `rt staticlib drawer_c` writes. `c/knotsaddle_drawer.h` says what a drawer is, where a change
+//! It stands on the static library that `c/build drawer_c` writes. `c/knotsaddle_drawer.h` says what a drawer is, where a change
 //! puts its bytes, and in which order a call is refused. As beside it, a call gets a workspace from the heap, or takes one that is
 //! lent. A board is one of document 01's gate. A refused call leaves the drawer as it was.
 

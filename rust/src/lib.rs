@@ -1,7 +1,7 @@
 //! The gates: judge a bundle in full, try a change, make it, ask why a mark doesn't hold, ask for a file, print a report.
 //! `Gate` says by which: document 01's, its baseline profile, or that of the contract side.
 //!
-//! It stands on the static library that `rt staticlib gate_c` writes, for x86-64 Linux. Set `KNOTSADDLE_LIB_DIR` to the
+//! It stands on the static library that `c/build gate_c` writes, for x86-64 Linux. Set `KNOTSADDLE_LIB_DIR` to the
 //! folder that holds `libgate_c.a`; without it `../target/staticlib` is searched. `docs/BUNDLE.md` has the layout of a bundle,
 //! `c/knotsaddle.h` what the numbers of a board mean.
 //!

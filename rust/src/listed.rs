@@ -1,7 +1,7 @@
 //! The calls with a list of entries: judge a bundle, try a change, make it, and have beside the marks a lookup of the records that were
 //! read; and the plain engine, to compare with.
 //!
-//! It stands on the static library that `rt staticlib listed_c` writes. `c/knotsaddle_listed.h` says what an entry is, which entries
+//! It stands on the static library that `c/build listed_c` writes. `c/knotsaddle_listed.h` says what an entry is, which entries
 //! the list gets, and in which order a call is refused. A call gets a workspace of 4,227,384 bytes from the heap, or takes one that is
 //! lent. The plain engine takes none, and some 4,350,000 bytes of stack: a thread with the 2 MB that Rust gives it has too little.
 

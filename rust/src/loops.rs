@@ -1,6 +1,6 @@
 //! A loop of links: tasks that wait for themselves, as record numbers of file 14.
 //!
-//! It stands on the static library that `rt staticlib loops_c` writes. `c/knotsaddle_loops.h` says what a loop is, and in which order
+//! It stands on the static library that `c/build loops_c` writes. `c/knotsaddle_loops.h` says what a loop is, and in which order
 //! a call is refused. `show` gets its list and its workspace from the heap, `show_in` takes what is lent.
 
 use crate::{answer, numbers, Refusal};

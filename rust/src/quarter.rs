@@ -1,6 +1,6 @@
 //! The quarter: exact totals of assigned dollars and hours by element of cost over up to 256 sets.
 //!
-//! It stands on the static library that `rt staticlib quarter_c` writes. `c/knotsaddle_quarter.h` says what each number means. As
+//! It stands on the static library that `c/build quarter_c` writes. `c/knotsaddle_quarter.h` says what each number means. As
 //! beside it, a call gets a workspace from the heap, or takes one that is lent.
 
 use crate::{answer, workspace, Refusal};
