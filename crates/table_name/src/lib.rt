@@ -261,7 +261,7 @@ pub fn quoted_end(s: &[u8], at: usize, word: &[u8]) -> usize
     if s.len() - at - 1 <= word.len() {
         return 0;
     }
-    if s[close] != b'"' {
+    if s[at] != b'"' {
         return 0;
     }
     let from = at + 1;
