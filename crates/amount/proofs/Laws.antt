@@ -1,18 +1,18 @@
 -- No amount is farther from zero than the largest; and a count of ten-thousandths is the number itself, exactly.
 -- Assumes nothing.
-use Prim.Native.Nat.{ℕ, zero, suc, ◌+◌, ◌*◌, ◌-◌, ◌/◌, ◌%◌, ◌^◌, ◌≤◌, ◌<◌}
-use mathlib.Core.Path.{◌≡◌, refl, sym, ap, ◌∙◌}
+use Prim.Native.Nat.{ℕ, ◌+◌, ◌-◌, ◌≤◌, ◌<◌}
+use mathlib.Core.Path.{◌≡◌, refl}
 use mathlib.Core.Bool.{Bool, true, false, cond, ◌&&◌}
 use native.Mathlib.Omega.{arith}
 use borrow.Author.Tests.{le-leb, lt-leb, leb-true}
 use lib.Dec.{leb}
-use lib.IntN.{ℤ, pos, neg_ℤ, nat_abs}
+use lib.IntN.{pos, nat_abs}
 use Rattle.exact_sums.proofs.Signed.{negative-within}
 use Rattle.json_number.specs.Number.{whole_of, within_limits}
 use Rattle.json_number.specs.declared.Integer.{Integer}
 use Rattle.json_number.specs.declared.Integer.TheVariants.{Is, Fraction, TooLarge}
 use Rattle.rule_cells.specs.Cells.{Table}
-use Rattle.amount.specs.Amount.{largest_amount, signed, is_amount, amount_of, ten_thousandths_in, amount_in}
+use Rattle.amount.specs.Amount.{largest_amount, signed, amount_of, ten_thousandths_in, amount_in}
 
 pub signed-within : (negative : Bool) (size : ℕ) → nat_abs (signed negative size) ≡ size
 signed-within true size = negative-within size

@@ -1,9 +1,7 @@
 -- What holds of the contract side's rules, computed once over all of them.
 -- Assumes nothing.
-use Prim.Native.Nat.{ℕ}
 use mathlib.Core.Path.{◌≡◌, refl}
 use mathlib.Core.Bool.{Bool, true, ◌&&◌}
-use mathlib.Core.List.{flatten}
 use lib.ListN.{length}
 use lib.Dec.{ltb}
 use Rattle.table_rows.proofs.Laws.{all}

@@ -5,7 +5,7 @@ use mathlib.Core.Path.{◌≡◌, refl, sym, ap, ◌∙◌, fun_ext}
 use mathlib.Core.Bool.{Bool, true, false, cond, ◌&&◌}
 use mathlib.Core.List.{List}
 use native.Mathlib.Omega.{arith}
-use borrow.Author.Tests.{eq-eqb, ne_eqb, le-leb, lt-leb, lt-ltb, le-ltb}
+use borrow.Author.Tests.{eq-eqb, ne_eqb, le-leb, lt-leb}
 use lib.ListN.{length, get_or}
 use lib.Dec.{ltb, leb, eqb}
 use Rattle.json_same.specs.Same.{same_as}
@@ -13,7 +13,7 @@ use Rattle.json_same.specs.declared.Case.TheVariants.{Folded}
 use Rattle.json_same.proofs.Laws.{same-sym, same-trans}
 use Rattle.mark_numbers.specs.Marks.{list_of}
 use Rattle.mark_numbers.proofs.Laws.{list_at, list_same}
-use Rattle.rule_cells.specs.Cells.{Table, table, start_of, text_of, same_text, is_word, first_from, first_that}
+use Rattle.rule_cells.specs.Cells.{Table, start_of, text_of, same_text, is_word, first_from, first_that}
 use Rattle.rule_cells.proofs.First.{First, first_found, first-none, none_first}
 use Rattle.rule_key.proofs.Laws.{both_ways}
 use Rattle.rule_key.specs.declared.Key.{Key}
@@ -22,7 +22,7 @@ use Rattle.key_order.proofs.Lists.{fit-sums, fit-order}
 use Rattle.key_lookup.specs.declared.Lookup.{Lookup}
 use Rattle.key_lookup.specs.Lookup.{key_of, has_texts, is_found}
 use Rattle.key_lookup.proofs.Laws.{found-exactly}
-use Rattle.cost_element.specs.Element.{assigned_id, resource_id, element_id, element_count, element_name, has_element, is_of, element_of, elements_after}
+use Rattle.cost_element.specs.Element.{assigned_id, resource_id, element_id, element_name, has_element, is_of, element_of, elements_after}
 use Rattle.cost_element.specs.Found.{first_of_element, lookup_at, is_of_found, element_found}
 
 -- ---- two texts of which one is a word are the same exactly if the other is

@@ -1,13 +1,13 @@
 -- The names of the elements among the enumeration values, and the fields by their names.
 -- Assumes nothing.
 use Prim.Native.Nat.{ℕ, ◌+◌, ◌<◌}
-use mathlib.Core.Path.{◌≡◌, refl, sym, ap, ◌∙◌}
+use mathlib.Core.Path.{◌≡◌, refl, ◌∙◌}
 use mathlib.Core.List.{List, flatten}
 use native.Mathlib.Omega.{arith}
 use lib.ListN.{length}
 use Rattle.parts.specs.Part.{part_of}
 use Rattle.table_rows.specs.Rows.{value_name_start, value_end, value_text_at}
-use Rattle.table_fields.specs.Enumerations.{enumerations, values_of}
+use Rattle.table_fields.specs.Enumerations.{values_of}
 use Rattle.table_fields.specs.Flat.{value_places, value_texts, first_value}
 use Rattle.table_fields.proofs.Facts.{value-back}
 use Rattle.table_fields.proofs.Opens.{open-fields}

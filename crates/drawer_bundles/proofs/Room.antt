@@ -2,12 +2,11 @@
 -- in two files.
 -- Assumes nothing.
 use Prim.Native.Nat.{ℕ, zero, suc, ◌+◌, ◌-◌, ◌≤◌, ◌<◌}
-use mathlib.Core.Path.{◌≡◌, refl, sym, ap, ◌∙◌}
+use mathlib.Core.Path.{◌≡◌, refl, ap}
 use mathlib.Core.Logic.{◌⊎◌, inl, inr, ⊎_elim}
 use mathlib.Core.List.{List}
 use native.Mathlib.Omega.{arith}
 use lib.ListN.{length, get_or}
-use Rattle.parts.specs.Files.{bytes_of}
 use Rattle.bundle_bytes.specs.Pieces.{piece_start}
 use Rattle.bundle_layout.specs.Bundle.{header_size, file_at, pieces_of, bundle_length}
 use Rattle.drawer_layout.specs.Places.{total, all_lengths}

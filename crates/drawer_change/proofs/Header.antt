@@ -1,11 +1,10 @@
 -- The header written number by number.
 -- Assumes nothing.
-use Prim.Native.Nat.{ℕ, zero, suc, ◌+◌, ◌*◌, ◌^◌, ◌≤◌, ◌<◌}
+use Prim.Native.Nat.{ℕ, zero, suc, ◌+◌, ◌*◌, ◌≤◌}
 use mathlib.Core.Path.{◌≡◌, refl, sym, ap, ◌∙◌}
-use mathlib.Core.List.{List, [], ◌∷◌, ◌++◌, append_assoc, append-nil}
-use native.Mathlib.Numerals.{add-one}
+use mathlib.Core.List.{List, [], ◌++◌, append_assoc}
 use native.Mathlib.Omega.{arith}
-use lib.ListN.{length, get_or, set, drop, length-append, length-set}
+use lib.ListN.{length, get_or, drop, length-append}
 use Rattle.bundle_bytes.specs.Words.{word_of}
 use Rattle.bundle_bytes.specs.Pieces.{joined, written, piece_start}
 use Rattle.bundle_bytes.proofs.Laws.{word-length, joined_length, joined-next, written_behind, written_back}

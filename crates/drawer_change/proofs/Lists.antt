@@ -5,12 +5,11 @@ use mathlib.Core.Path.{◌≡◌, refl, sym, ap, ◌∙◌}
 use mathlib.Core.Bool.{Bool, true, false, cond}
 use mathlib.Core.Logic.{◌⊎◌, inl, inr, ⊎_elim}
 use mathlib.Core.List.{List, []}
-use native.Mathlib.Nat.{add-zero}
 use native.Mathlib.Omega.{arith}
-use borrow.Author.Tests.{eqb-true, eqb-false, lt-ltb, le-ltb, eq-eqb, ne_eqb}
+use borrow.Author.Tests.{eqb-true, eqb-false, ne_eqb}
 use lib.ListN.{length, get_or, set, take, drop, take-append-drop, length-drop}
 use lib.Seq.{get_or-set_same, get_or-set_other, take-add, length-take-le}
-use lib.Dec.{ltb, eqb}
+use lib.Dec.{eqb}
 use Rattle.json_bytes.proofs.Laws.{by-test}
 use Rattle.bundle_bytes.specs.Pieces.{written}
 use Rattle.bundle_bytes.proofs.Laws.{written-fits}
@@ -19,7 +18,7 @@ use Rattle.drawer_layout.specs.Places.{is_free, is_in_way, first_free, lowest_ga
 use Rattle.drawer_layout.proofs.Laws.{Laid, under-or-not, free-each, share-none}
 use Rattle.drawer_moves.specs.Painted.{painted, part_in}
 use Rattle.drawer_moves.proofs.Sums.{total-more, list_at, list_length}
-use Rattle.drawer_moves.proofs.Moves.{before-lt, before-not, before-le, before_self, full-inside, place-full, empty-part, full-length}
+use Rattle.drawer_moves.proofs.Moves.{before-lt, before-le, before_self, full-inside, place-full, empty-part}
 use Rattle.drawer_moves.proofs.Painting.{written-nothing}
 
 pub same_or_not : (i k : ℕ) → (i ≡ k) ⊎ (i ≡ k → ⊥)

@@ -1,27 +1,26 @@
 -- What a change that is not refused comes to: where the files then stand, and the bytes with each of them at its place.
 -- Assumes nothing.
-use Prim.Native.Nat.{ℕ, ◌+◌, ◌*◌, ◌≤◌, ◌<◌}
+use Prim.Native.Nat.{ℕ, ◌+◌, ◌≤◌, ◌<◌}
 use mathlib.Core.Path.{◌≡◌, refl, sym, ap, ◌∙◌}
-use mathlib.Core.Bool.{Bool, true, false, cond, not, ◌&&◌}
+use mathlib.Core.Bool.{Bool, true, false, cond}
 use mathlib.Core.Logic.{◌⊎◌, inl, inr, ⊎_elim}
 use mathlib.Core.List.{List, [], ◌++◌}
 use native.Mathlib.Omega.{arith}
-use borrow.Author.Tests.{eqb-true, eqb-false, eq-eqb, ne_eqb}
+use borrow.Author.Tests.{eq-eqb, ne_eqb}
 use lib.ListN.{length, get_or, set, take, drop, length-set}
 use lib.Seq.{get_or-set_same}
-use lib.Dec.{eqb}
 use Rattle.json_bytes.proofs.Laws.{by-test}
 use Rattle.parts.specs.Files.{File, Left, Given, is_present, bytes_of}
 use Rattle.bundle_bytes.specs.Pieces.{written}
-use Rattle.bundle_layout.specs.Bundle.{header_size, offset_at, length_at, file_at, pieces_of, bundle_length}
+use Rattle.bundle_layout.specs.Bundle.{header_size, offset_at, length_at, pieces_of}
 use Rattle.bundle_layout.specs.Change.{files_after}
-use Rattle.drawer_layout.specs.Places.{lowest_gap, all_lengths, places_moved_down, are_moved, new_place, placed, stand_apart}
+use Rattle.drawer_layout.specs.Places.{lowest_gap, all_lengths, places_moved_down, are_moved, new_place, placed}
 use Rattle.drawer_layout.proofs.Laws.{Laid, laid_so, under-or-not}
 use Rattle.drawer_moves.specs.Painted.{painted, part_in, files_moved, moved_in}
 use Rattle.drawer_moves.proofs.Sums.{list_length}
 use Rattle.drawer_moves.proofs.Moves.{full-inside, place-full, empty-part, full-length}
 use Rattle.drawer_moves.proofs.Painting.{painted-put}
-use Rattle.drawer_held.specs.Drawer.{offsets_of, lengths_of, drawer_fault, drawer_change_fault, lengths_freed, lengths_after, places_after, header_at, drawer_after, drawer_made}
+use Rattle.drawer_held.specs.Drawer.{offsets_of, lengths_of, drawer_fault, drawer_change_fault, lengths_freed, lengths_after, places_after, header_at, drawer_after}
 use Rattle.drawer_held.proofs.Laws.{change-none, drawer-size, drawer-laid, held_bytes, freed-same, freed-other, new-piece, other-piece, length-changed}
 use Rattle.drawer_change.proofs.Lists.{same_or_not, gap-free, gap-clear, laid-anew, place_other, before-all, moved-laid, moved_length, painted-own}
 

@@ -2,7 +2,7 @@
 -- Assumes nothing.
 use Prim.Native.Nat.{ℕ, ◌+◌, ◌^◌, ◌≤◌, ◌<◌}
 use mathlib.Core.Path.{◌≡◌, refl, sym, ap, ◌∙◌}
-use mathlib.Core.Bool.{Bool, true, false, cond}
+use mathlib.Core.Bool.{Bool, true, false}
 use mathlib.Core.Logic.{⊎_elim}
 use mathlib.Core.List.{List, ◌++◌}
 use native.Mathlib.Omega.{arith}
@@ -13,7 +13,7 @@ use Rattle.bundle_bytes.specs.Pieces.{written}
 use Rattle.bundle_layout.specs.Bundle.{header_size, length_at}
 use Rattle.drawer_moves.proofs.Sums.{list_length}
 use Rattle.drawer_layout.specs.Places.{all_lengths, places_moved_down, are_moved, new_place}
-use Rattle.drawer_moves.specs.Painted.{files_moved, moved_in}
+use Rattle.drawer_moves.specs.Painted.{moved_in}
 use Rattle.drawer_places.specs.declared.Choice.{Choice}
 use Rattle.drawer_places.specs.Choice.{chosen}
 use Rattle.drawer_held.specs.Drawer.{offsets_of, lengths_of, drawer_change_fault, lengths_freed, header_at, drawer_after, drawer_made}

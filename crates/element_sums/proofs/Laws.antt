@@ -1,9 +1,9 @@
 -- The sums over a list of elements are the sums over the records, and how far they are from zero.
 -- Assumes nothing.
-use Prim.Native.Nat.{ℕ, zero, suc, ◌+◌, ◌*◌, ◌-◌, ◌/◌, ◌%◌, ◌≤◌, ◌<◌}
+use Prim.Native.Nat.{ℕ, suc, ◌+◌, ◌*◌, ◌-◌, ◌/◌, ◌%◌, ◌≤◌, ◌<◌}
 use mathlib.Core.Path.{◌≡◌, refl, sym, ap, ◌∙◌}
-use mathlib.Core.Bool.{Bool, true, false, cond, not, ◌&&◌}
-use mathlib.Core.List.{List, [], ◌∷◌}
+use mathlib.Core.Bool.{Bool, true, false, cond, ◌&&◌}
+use mathlib.Core.List.{List, []}
 use native.Mathlib.Numerals.{add-one}
 use native.Mathlib.Omega.{arith}
 use borrow.Author.Tests.{eq-eqb, ne_eqb, le-leb, lt-leb, leb-true}
@@ -15,7 +15,7 @@ use Rattle.exact_sums.proofs.Sums.{sum-next, sum_near, sum_same}
 use Rattle.exact_sums.proofs.Lists.{whole-at, wholes-same}
 use Rattle.mark_numbers.specs.Marks.{list_of}
 use Rattle.mark_numbers.proofs.Laws.{list_at, list_length}
-use Rattle.rule_cells.specs.Cells.{Table, table, start_of, is_given, text_of, same_text, is_word, first_from, first_that}
+use Rattle.rule_cells.specs.Cells.{Table, table, text_of, same_text, is_word, first_from, first_that}
 use Rattle.rule_cells.proofs.Laws.{search-hits, search-ends}
 use Rattle.amount.specs.Amount.{largest_amount, ten_thousandths_in, is_amount_in, amount_in}
 use Rattle.amount.proofs.Laws.{amount-within}

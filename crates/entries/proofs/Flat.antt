@@ -1,14 +1,14 @@
 -- Entries as numbers in a list: written one behind the other, and read back.
 -- Assumes nothing.
-use Rattle.std.proofs.Common.{◌≡◌, ℕ, zero, suc, ◌+◌, ◌-◌, ◌*◌, ◌<◌, ◌≤◌, Bool, true, false, leb, List, [], ◌∷◌, ◌++◌, map, length, get_or, take, drop, set, sym, refl, ap, ◌∙◌, append_assoc, append-nil, add-zero, zero-add, add-one, arith, length-append, length-drop, take-append-drop, length-take-le, get_or-drop, take_all, get_or-take, take-suc, get_or-append-add, leb-false, leb-true}
+use Rattle.std.proofs.Common.{◌≡◌, ℕ, suc, ◌+◌, ◌-◌, ◌*◌, ◌<◌, ◌≤◌, Bool, true, false, leb, List, [], ◌∷◌, ◌++◌, map, length, get_or, take, drop, set, sym, refl, ap, ◌∙◌, append_assoc, append-nil, add-zero, add-one, arith, length-append, take-append-drop, length-take-le, take_all, take-suc, leb-false, leb-true}
 use lib.ListN.{length-map}
 use lib.Seq.{sets-eq}
 use Rattle.bundle_bytes.specs.Pieces.{written}
-use Rattle.bundle_bytes.proofs.Laws.{written_none, written-fits, written-length, written_behind, written-part, written-part-before}
+use Rattle.bundle_bytes.proofs.Laws.{written_none, written-fits, written-length, written_behind, written-part-before}
 use Rattle.parts.specs.Part.{part_of}
 use Rattle.parts.proofs.Laws.{part-is}
 use Rattle.entries.specs.declared.Entry.{Entry}
-use Rattle.entries.specs.Flat.{entry_numbers, flat_of, entry_in, entries_in}
+use Rattle.entries.specs.Flat.{entry_numbers, flat_of}
 
 -- ---- lists written one behind the other
 module _ (d : List ℕ) (at : ℕ) where

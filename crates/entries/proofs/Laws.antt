@@ -1,6 +1,6 @@
 -- The entries of a table's records.
 -- Assumes nothing.
-use Rattle.std.proofs.Common.{◌≡◌, ℕ, zero, suc, ◌+◌, ◌-◌, ◌*◌, ◌<◌, ◌≤◌, Bool, true, false, cond, List, [], ◌∷◌, ◌++◌, map, length, take, drop, sym, refl, ap, ◌∙◌, add-one, arith, length-take-le, le-ltb, lt-ltb, eq-eqb, le-leb}
+use Rattle.std.proofs.Common.{◌≡◌, ℕ, ◌+◌, ◌-◌, ◌*◌, ◌<◌, ◌≤◌, true, false, List, [], map, length, take, drop, sym, refl, ap, ◌∙◌, arith, length-take-le, le-ltb, lt-ltb, eq-eqb, le-leb}
 use borrow.Author.Tests.{lt-leb}
 use lib.ListN.{length-map}
 use Rattle.parts.specs.Part.{part_of}

@@ -1,26 +1,24 @@
 -- What each way through a comparison with a record answers.
 -- Assumes nothing.
 use Prim.Native.Nat.{ℕ, ◌≤◌, ◌<◌}
-use mathlib.Core.Path.{◌≡◌, refl, sym, ap, ◌∙◌}
-use mathlib.Core.Bool.{Bool, true, false, cond, not, ◌&&◌}
-use mathlib.Core.List.{List, [], ◌∷◌, map}
+use mathlib.Core.Path.{◌≡◌, sym, ◌∙◌}
+use mathlib.Core.Bool.{Bool, true, false, not}
+use mathlib.Core.List.{List, [], map}
 use native.Mathlib.Omega.{arith}
 use borrow.Author.Tests.{lt-ltb, le-ltb, eq-eqb, ne_eqb}
 use lib.ListN.{length, get_or}
-use lib.Dec.{eqb}
 use Rattle.json_chars.specs.Chars.{chars_at}
 use Rattle.json_same.specs.Same.{cased_as, same_as}
 use Rattle.json_same.specs.declared.Case.TheVariants.{Folded}
 use Rattle.key_sum.specs.Sum.{key_sum}
 use Rattle.text_order.specs.Order.{order_of, text_order, may_precede}
 use Rattle.text_order.specs.declared.Compared.{Compared}
-use Rattle.text_order.specs.declared.Compared.TheVariants.{Less, Same, More}
 use Rattle.text_order.proofs.Laws.{by_less, by-more, by-rest}
 use Rattle.number_search.specs.Search.{searched}
 use Rattle.rule_cells.specs.Cells.{Table, table, start_of, text_of}
 use Rattle.key_order.specs.Order.{and_then}
 use Rattle.key_lookup.specs.declared.Lookup.{Lookup}
-use Rattle.key_lookup.specs.Lookup.{has_texts, first_parts, second_parts, second_order, stands_before, key_place, is_found}
+use Rattle.key_lookup.specs.Lookup.{has_texts, second_parts, second_order, stands_before, key_place, is_found}
 
 -- ---- the second text
 module _ (b cells : List ℕ) (width : ℕ) (l : Lookup) (q : ℕ) where

@@ -2,7 +2,7 @@
 -- Assumes nothing.
 use Prim.Native.Nat.{ℕ, zero, suc, ◌<◌}
 use mathlib.Core.Path.{◌≡◌, refl, sym, ap, ◌∙◌}
-use mathlib.Core.Bool.{Bool, true, false, cond, not, ◌&&◌, true≢false}
+use mathlib.Core.Bool.{Bool, true, false, cond, not, true≢false}
 use mathlib.Core.List.{List, [], ◌∷◌, map}
 use native.Mathlib.Omega.{arith}
 use borrow.Author.Tests.{lt-ltb, ltb-true, ltb-false}
@@ -18,7 +18,6 @@ use Rattle.text_order.specs.Order.{order_of, turned, may_precede}
 use Rattle.text_order.specs.declared.Compared.{Compared}
 use Rattle.text_order.specs.declared.Compared.TheVariants.{Less, Same, More}
 use Rattle.text_order.proofs.Laws.{by_less, by-more, by-rest, same_lists, lists-same}
-use Rattle.sorted_numbers.proofs.Laws.{Order}
 use Rattle.sorted_numbers.proofs.Members.{Stands}
 use Rattle.number_search.specs.Search.{front_of, searched}
 use Rattle.number_search.proofs.Laws.{Falls, front-before, front_at, search-ordered}

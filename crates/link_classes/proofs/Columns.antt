@@ -1,17 +1,13 @@
 -- The columns as the code fills them, in lists of its own that hold the order of the links.
 -- Assumes nothing.
 use Prim.Native.Nat.{ℕ, ◌≤◌, ◌<◌}
-use mathlib.Core.Path.{◌≡◌, refl, sym, ap, ◌∙◌}
-use mathlib.Core.Bool.{Bool, true, false, cond, ◌&&◌}
-use mathlib.Core.List.{List, map}
-use native.Mathlib.Omega.{arith}
+use mathlib.Core.Path.{◌≡◌, sym, ◌∙◌}
+use mathlib.Core.Bool.{Bool, true, false}
+use mathlib.Core.List.{List}
 use borrow.Author.Tests.{eq-eqb, ne_eqb, le-leb, lt-leb}
 use lib.ListN.{length}
-use lib.Dec.{leb, eqb}
 use Rattle.json_chars.specs.Chars.{chars_at}
-use Rattle.json_same.specs.Same.{cased_as}
-use Rattle.json_same.specs.declared.Case.TheVariants.{Folded}
-use Rattle.key_sum.specs.Sum.{key_sum, sum_of}
+use Rattle.key_sum.specs.Sum.{key_sum}
 use Rattle.mark_numbers.specs.Marks.{list_of}
 use Rattle.number_search.specs.Search.{searched}
 use Rattle.rule_cells.specs.Cells.{Table, text_of}

@@ -12,7 +12,7 @@ use lib.ListN.{length, get_or}
 use lib.Dec.{ltb}
 use Rattle.sorted_numbers.proofs.Members.{Stands}
 use Rattle.rule_cells.specs.Cells.{first_that}
-use Rattle.rule_cells.proofs.First.{First, found_first, none_first}
+use Rattle.rule_cells.proofs.First.{found_first, none_first}
 use Rattle.key_order.proofs.Listed.{Listed}
 use Rattle.ordered_key.specs.Repeat.{lesser, repeat_of, least_repeat}
 

@@ -1,9 +1,9 @@
 -- In an order by sums and then keys, records of one sum and one key stand side by side: so the rule can be read from it,
 -- where records of one key have one sum.
 -- Assumes nothing.
-use Prim.Native.Nat.{ℕ, suc, ◌-◌, ◌<◌}
+use Prim.Native.Nat.{ℕ, ◌-◌, ◌<◌}
 use mathlib.Core.Path.{◌≡◌, refl, sym, ap, ◌∙◌}
-use mathlib.Core.Bool.{Bool, true, false, cond, ◌&&◌, true≢false}
+use mathlib.Core.Bool.{Bool, true, false, cond, true≢false}
 use mathlib.Core.List.{List, [], ◌∷◌}
 use native.Mathlib.Omega.{arith}
 use borrow.Author.Tests.{ltb-true, eqb-true, eq-eqb}
@@ -11,7 +11,7 @@ use lib.ListN.{length, get_or}
 use lib.Dec.{eqb}
 use Rattle.json_bytes.proofs.Laws.{both_left, both_right}
 use Rattle.mark_numbers.proofs.Laws.{list_length, list_at}
-use Rattle.text_order.specs.Order.{order_of, may_precede}
+use Rattle.text_order.specs.Order.{may_precede}
 use Rattle.text_order.specs.declared.Compared.{Compared}
 use Rattle.text_order.specs.declared.Compared.TheVariants.{Less, Same, More}
 use Rattle.text_order.proofs.Laws.{by_less, same_lists, lists-same}
@@ -21,7 +21,6 @@ use Rattle.rule_cells.proofs.First.{First, first_found}
 use Rattle.rule_key.specs.declared.Key.{Key}
 use Rattle.rule_key.specs.declared.KeyBreak.{KeyBreak}
 use Rattle.rule_key.specs.Key.{same_field, same_key, earliest, repeats, key_rule}
-use Rattle.rule_key.proofs.Compare.{rule-is}
 use Rattle.rule_key.proofs.Laws.{same-key-sym, repeats-none}
 use Rattle.key_order.specs.Order.{and_then, key_order, number_order, record_order, precedes, field_sum, in_sum_order, are_fit, order_by_sums}
 use Rattle.key_order.proofs.Compared.{Comparison, by_parts, by_both, both-same, same-both, then_next, each_way}

@@ -10,7 +10,7 @@ use Rattle.json_same.specs.declared.Case.TheVariants.{Folded}
 use Rattle.rule_cells.specs.Cells.{Table, table, cell_of, start_of, text_of, is_given, first_from, first_that}
 use Rattle.rule_when.specs.When.{holds_when}
 use Rattle.rule_when.specs.declared.When.{When}
-use Rattle.rule_target.specs.Target.{target_of, breaks_target, target_rule}
+use Rattle.rule_target.specs.Target.{target_of, breaks_target}
 use Rattle.rule_target.proofs.Laws.{target_told, has-target}
 use Rattle.rule_key.specs.declared.Key.{Key}
 use Rattle.key_order.specs.Order.{sums_of, in_key_order, are_fit, sums_after, order_after}

@@ -9,7 +9,7 @@ use Rattle.json_bytes.specs.Ascii.{codes}
 use Rattle.bundle_bytes.specs.Pieces.{joined}
 use Rattle.bundle_bytes.proofs.Laws.{joined-next}
 use Rattle.output.specs.Decimal.{decimal}
-use Rattle.output.specs.Output.{Output, output_at, put, ended}
+use Rattle.output.specs.Output.{Output, put, ended}
 use Rattle.output.proofs.Puts.{put_then}
 use Rattle.mark_numbers.specs.Marks.{Marks, mark_in, faults_in}
 use Rattle.mark_numbers.specs.declared.Mark.{Mark}

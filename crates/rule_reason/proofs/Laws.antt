@@ -2,24 +2,19 @@
 -- Assumes nothing.
 use Prim.Native.Nat.{ℕ}
 use mathlib.Core.Path.{◌≡◌, refl}
-use mathlib.Core.List.{List, [], ◌∷◌}
-use denote.Enum.Declared.{tag_of}
-use types.Run.{OneOf, miss}
+use mathlib.Core.List.{List, []}
+use Rattle.rule_when.specs.declared.When.{When}
 use Rattle.rule_cells.specs.Cells.{table, sign_in}
 use Rattle.rule_hours.specs.Hours.{lies_below}
 use Rattle.rule_shape.specs.declared.Rule.{Rule}
 use Rattle.rule_shape.specs.declared.Rule.TheVariants.{KeyOf, OneOf as one_of, NullUnless, GivenIf, GivenUnless, NoneBelow, SomeAbove, Together, LevelRun, ParentGiven, AllGiven, NoneGiven, InOrder, TreeLevels, TreeParent, TargetIn, ParentIs, LeafIn, EachHas}
-use Rattle.rule_shape.specs.contracts.Rule.{the_type}
 use Rattle.rule_reason.specs.declared.Searched.TheVariants.{Nowhere}
 use Rattle.rule_reason.specs.Reason.{deciding_field, searched_in}
 
 -- ---- A rule of any shape but "targets", told by its number among the variants, searches no table
-abbrev others : List ℕ
-others = 0 ∷ 1 ∷ 2 ∷ 3 ∷ 4 ∷ 5 ∷ 6 ∷ 7 ∷ 8 ∷ 9 ∷ 10 ∷ 11 ∷ 12 ∷ 13 ∷ 14 ∷ 16 ∷ 17 ∷ 18 ∷ []
-
-pub no_target : (rule : Rule) → OneOf others (tag_of the_type rule) → Nowhere ≡ searched_in rule
+pub no_target : (rule : Rule) → ((file field : ℕ) (when : When) (other id : ℕ) → rule ≡ TargetIn file field when other id → ⊥) → Nowhere ≡ searched_in rule
 unfolding searched_in
-no_target (TargetIn file field when other id) k = absurd (miss others 15 tt k)
+no_target (TargetIn file field when other id) k = absurd (k file field when other id refl)
 no_target (KeyOf file key) k = refl
 no_target (one_of file field first count) k = refl
 no_target (NullUnless file field when) k = refl

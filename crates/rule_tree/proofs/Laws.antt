@@ -1,6 +1,6 @@
 -- The turns of the loops over a tree's records. Assumes nothing.
 use Prim.Native.Nat.{ℕ, zero, suc, ◌+◌, ◌-◌, ◌≤◌, ◌<◌}
-use mathlib.Core.Path.{◌≡◌, refl, sym, ap, ◌∙◌}
+use mathlib.Core.Path.{◌≡◌, sym, ap, ◌∙◌}
 use mathlib.Core.Bool.{Bool, true, false}
 use mathlib.Core.Logic.{⊎_elim}
 use mathlib.Core.List.{List}
@@ -12,7 +12,6 @@ use lib.Dec.{ltb}
 use Rattle.rule_cells.specs.Cells.{Table, table, integer_in, same_text, text_of, first_from, first_that}
 use Rattle.rule_cells.proofs.Laws.{search-hits, search-goes-on, search-ends}
 use Rattle.rule_outline.specs.Outline.{level_one, level_of}
-use Rattle.rule_outline.specs.declared.Outline.{Outline}
 use Rattle.rule_outline.proofs.Parents.{lower-or-not}
 use Rattle.rule_tree.specs.Tree.{first_breaks, next_breaks, tree_level_breaks, tree_level_rule, tree_parent_breaks, with_parent, tree_parent_rule, names_a_parent, leaf_breaks, leaf_rule}
 

@@ -2,7 +2,7 @@
 -- themselves, and a list of 4,096 lacks room only for more records than a table has.
 -- Assumes nothing.
 use Prim.Native.Nat.{ℕ}
-use mathlib.Core.Path.{◌≡◌, refl, sym, ap, ◌∙◌}
+use mathlib.Core.Path.{◌≡◌, ap, ◌∙◌}
 use mathlib.Core.Bool.{Bool, true, false, ◌&&◌}
 use mathlib.Core.List.{List}
 use lib.Dec.{leb}
@@ -15,7 +15,6 @@ use Rattle.rule_outline.proofs.Rules.{filled-parent-rule, filled-parent-type-rul
 use Rattle.rule_tree.specs.Tree.{tree_parent_rule}
 use Rattle.rule_tree.proofs.Rules.{filled-tree-parents}
 use Rattle.rules.specs.Judge.{alone, of_outline, parent_break}
-use Rattle.rules.specs.declared.Break.{Break}
 
 -- ---- Room
 few : (n : ℕ) (list : List ℕ) → parents_have_room n list ≡ true → leb n 4096 ≡ true

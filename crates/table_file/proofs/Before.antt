@@ -1,20 +1,19 @@
 -- What a file's reading gives does not hang on what the lent cells held before: its mark, the number of its records and the cells of these are
 -- the same over any cells of one length. Assumes nothing.
-use Prim.Native.Nat.{ℕ, zero, suc, ◌+◌, ◌*◌, ◌≤◌, ◌<◌}
-use mathlib.Core.Path.{◌≡◌, refl, sym, ap, ◌∙◌}
+use Prim.Native.Nat.{ℕ, zero, suc, ◌+◌, ◌*◌, ◌≤◌}
+use mathlib.Core.Path.{◌≡◌, refl, sym, ◌∙◌}
 use mathlib.Core.Bool.{Bool, true, false, cond}
 use mathlib.Core.List.{List}
 use native.Mathlib.Nat.{zero-mul, add-mul}
 use native.Mathlib.Omega.{arith}
-use borrow.Author.Tests.{ltb-true}
-use lib.ListN.{length, get_or}
+use lib.ListN.{length}
 use lib.Dec.{ltb, eqb}
-use Rattle.parts.specs.Files.{File, Left, Given, bytes_of}
+use Rattle.parts.specs.Files.{File, Left, Given}
 use Rattle.json_same.specs.Same.{same_list}
 use Rattle.json_bytes.specs.Reads.{byte_at, spaces_end}
 use Rattle.json_bytes.specs.declared.Reading.{Reading}
 use Rattle.json_bytes.specs.declared.Reading.TheVariants.{Whole, Fault}
-use Rattle.json_bytes.proofs.Laws.{by-test, either}
+use Rattle.json_bytes.proofs.Laws.{either}
 use Rattle.json_bytes.proofs.Bounds.{Within, spaces-within}
 use Rattle.table_rows.specs.Rows.{Field}
 use Rattle.table_value.specs.Value.{not_object_at}
@@ -22,9 +21,8 @@ use Rattle.table_name.specs.Name.{first_in, next_after}
 use Rattle.table_name.specs.declared.Next.{Next}
 use Rattle.table_name.specs.declared.Next.TheVariants.{More, Ends, Neither}
 use Rattle.table_record.specs.Record.{Filled, cells_filled, record_has_room, record_at}
-use Rattle.table_record.proofs.Bounds.{NextIn, next-in, first-in, record-in}
-use Rattle.table_record.proofs.Laws.{room-is}
-use Rattle.table_record.proofs.Before.{Alike, ReadAlike, record-alike, record-unread, room-alike}
+use Rattle.table_record.proofs.Bounds.{NextIn, next-in, first-in}
+use Rattle.table_record.proofs.Before.{Alike, record-alike, record-unread, room-alike}
 use Rattle.table_file.specs.declared.FileRead.{FileRead}
 use Rattle.table_file.specs.Table.{
   fault,

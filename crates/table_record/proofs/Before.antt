@@ -2,16 +2,16 @@
 -- record's cells are read alike, and are alike up to their end. Assumes nothing.
 use Prim.Native.Nat.{ℕ, zero, suc, ◌+◌, ◌*◌, ◌≤◌, ◌<◌}
 use mathlib.Core.Path.{◌≡◌, refl, sym, ap, ◌∙◌}
-use mathlib.Core.Bool.{Bool, true, false, cond, ◌&&◌, ◌||◌}
+use mathlib.Core.Bool.{Bool, true, false, cond, ◌||◌}
 use mathlib.Core.List.{List, [], ◌∷◌}
 use native.Mathlib.Omega.{arith}
 use borrow.Author.Tests.{eqb-true, eqb-false}
 use lib.ListN.{length, get_or, set, length-set}
 use lib.Seq.{get_or-set_same, get_or-set_other}
-use lib.Dec.{ltb, leb, eqb}
+use lib.Dec.{ltb, eqb}
 use Rattle.json_bytes.specs.declared.Reading.{Reading}
 use Rattle.json_bytes.specs.declared.Reading.TheVariants.{Whole, Fault}
-use Rattle.json_bytes.proofs.Laws.{by-test, together}
+use Rattle.json_bytes.proofs.Laws.{together}
 use Rattle.json_bytes.proofs.Bounds.{Within}
 use Rattle.table_rows.specs.Rows.{Field}
 use Rattle.table_name.specs.Name.{name_at, colon_at, first_in, next_after}

@@ -1,0 +1,10 @@
+-- `ordered_target::guess_copy` meets its contract: what it finds was seen to be a target.
+use Rattle.std.proofs.Common.{◌≤◌, true≢false}
+use Rattle.ordered_target.proofs.guess_copy.Given as goal
+
+-- nothing has to be known of the record that was tried before
+abbrev pub invariant-loop-d : goal.invariant-loop-d
+invariant-loop-d l = l.d ≤ 2
+
+abbrev pub decreases-loop-d : goal.decreases-loop-d
+decreases-loop-d l = l.d

@@ -1,0 +1,15 @@
+-- `rules::tree_parent_break` meets its contract: what the filled list gives is what the parents give.
+use Prim.Native.Nat.{ℕ}
+use mathlib.Core.Path.{sym, ◌∙◌}
+use lib.ListN.{length-replicate}
+use Rattle.rules.proofs.Laws.{tree-parent-judged, parent-left}
+use Rattle.rules.proofs.tree_parent_break.Goals as goal
+
+pub slice_bounds-fill_parents-end : goal.slice_bounds-fill_parents-end
+slice_bounds-fill_parents-end c = sym (length-replicate {A = ℕ} 4096 0)
+
+pub returns-then-fill_parents : goal.returns-then-fill_parents
+returns-then-fill_parents c = c.of_outline.ensures ∙ tree-parent-judged _ _ _ _ _ _ (sym c.fill_parents.ensures.value ∙ c.if-fill_parents.true) c.fill_parents.ensures.parents_after _ c.tree_parent_rule.ensures
+
+pub returns : goal.returns
+returns c = c.alone.ensures ∙ parent-left _ _ _ (length-replicate {A = ℕ} 4096 0) (sym c.fill_parents.ensures.value ∙ c.if-fill_parents.false)
