@@ -9,10 +9,9 @@ ghost use Rattle.std.specs.Prelude.{◌%◌, ◌≡◌};
 use board::Board;
 use bundle::FileState;
 use bundle_bytes::{put_word, word_at};
-use libc::{STDIN_FILENO, STDOUT_FILENO};
 use mark_numbers::{Mark, mark_in, put_mark};
 use parts::part;
-use program_io::fill;
+use program_io::{Host, fill, write_out};
 use reason_answer::{Reason, Shown};
 
 // No gate has more marks.
@@ -21,18 +20,18 @@ const MOST_MARKS: usize = 96;
 // ---- Bytes in and out
 
 // Fills the front of a buffer, where it is long enough.
-pub fn fill_front(buf: &mut [u8], n: usize) -> bool {
+pub fn fill_front(rt: &impl Host, buf: &mut [u8], n: usize) -> bool {
     if buf.len() < n {
         return false;
     }
-    fill(STDIN_FILENO, &mut buf[..n])
+    fill(&mut rt.input(), &mut buf[..n])
 }
 
-pub fn write_part(bytes: &[u8]) -> bool {
+pub fn write_part(rt: &impl Host, bytes: &[u8]) -> bool {
     if bytes.len() == 0 {
         return true;
     }
-    io::write_all(STDOUT_FILENO, bytes)
+    write_out(rt, bytes)
 }
 
 // The lowest 32 bits of a number.
@@ -42,10 +41,10 @@ pub fn low(x: usize) -> u32
     (x % 4294967296) as u32
 }
 
-pub fn write_number(x: u32) -> bool {
+pub fn write_number(rt: &impl Host, x: u32) -> bool {
     let mut out = [0u8; 4];
     put_word(&mut out, 0, x);
-    io::write_all(STDOUT_FILENO, &out)
+    write_out(rt, &out)
 }
 
 fn pattern(seed: usize, i: usize) -> u8 {
@@ -89,12 +88,12 @@ pub fn put_marks(out: &mut [u8], kinds: &[u32], places: &[usize], companions: &[
     }
 }
 
-pub fn read_board() -> Board {
+pub fn read_board(rt: &impl Host) -> Board {
     let mut bytes = [0u8; 972];
     let mut kinds = [0u32; 81];
     let mut places = [0usize; 81];
     let mut companions = [0usize; 81];
-    fill(STDIN_FILENO, &mut bytes);
+    fill(&mut rt.input(), &mut bytes);
     get_marks(&bytes, &mut kinds, &mut places, &mut companions);
     Board {
         kinds,
@@ -104,20 +103,20 @@ pub fn read_board() -> Board {
 }
 
 // Writes a refusal, or 0, and a board.
-pub fn write_board(refusal: u32, board: Board) -> bool {
+pub fn write_board(rt: &impl Host, refusal: u32, board: Board) -> bool {
     let mut out = [0u8; 984];
     let kinds = board.kinds;
     let places = board.places;
     let companions = board.companions;
     put_marks(&mut out, &kinds, &places, &companions);
     put_word(&mut out, 8, refusal);
-    write_part(part(&out, 8, 984))
+    write_part(rt, part(&out, 8, 984))
 }
 
 // The same with a length between them.
-pub fn write_sized(refusal: u32, length: usize, board: Board) -> bool {
-    if write_number(refusal) {
-        return write_board(low(length), board);
+pub fn write_sized(rt: &impl Host, refusal: u32, length: usize, board: Board) -> bool {
+    if write_number(rt, refusal) {
+        return write_board(rt, low(length), board);
     }
     false
 }
@@ -142,13 +141,13 @@ fn state_refusal(state: FileState) -> u32 {
 
 // Writes what a lookup of a file answers: 0 for present, 1 for omitted or 2 for refused, the refusal, the length
 // and the file.
-pub fn write_file(state: FileState, file: &[u8]) -> bool {
+pub fn write_file(rt: &impl Host, state: FileState, file: &[u8]) -> bool {
     let mut out = [0u8; 12];
     put_word(&mut out, 0, state_number(state));
     put_word(&mut out, 4, state_refusal(state));
     put_word(&mut out, 8, low(file.len()));
-    if io::write_all(STDOUT_FILENO, &out) {
-        return write_part(file);
+    if write_out(rt, &out) {
+        return write_part(rt, file);
     }
     false
 }
@@ -202,8 +201,8 @@ fn put_reason(out: &mut [u8], reason: Reason) {
 // Writes a reason as nine numbers: 0 and the refusal; 1 for a mark that holds; 2 and the unreadable file; 3, kind,
 // place and companion; 4 or, for a missing target, 5, then file, record, companion, field, start, length and the
 // file searched; 0 for the rest.
-pub fn write_reason(reason: Reason) -> bool {
+pub fn write_reason(rt: &impl Host, reason: Reason) -> bool {
     let mut out = [0u8; 36];
     put_reason(&mut out, reason);
-    io::write_all(STDOUT_FILENO, &out)
+    write_out(rt, &out)
 }

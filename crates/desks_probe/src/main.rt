@@ -18,25 +18,24 @@ use bundle_bytes::word_at;
 use cases::{fill_front, lay, low, read_board, write_board, write_number, write_part};
 use desks::{Desk, Desks, change_desks, judge_joined, try_desks};
 use desks_calls::Whose;
-use libc::STDIN_FILENO;
 use parts::part;
-use program_io::fill;
+use program_io::{Host, fill};
 
-fn write_desk(desk: Desk) -> bool {
+fn write_desk(rt: &impl Host, desk: Desk) -> bool {
     let board = desk.board;
-    write_board(desk.refusal, board)
+    write_board(rt, desk.refusal, board)
 }
 
-fn write_desks(desks: Desks) -> bool {
+fn write_desks(rt: &impl Host, desks: Desks) -> bool {
     let a = desks.a;
     let b = desks.b;
-    if !write_desk(a) {
+    if !write_desk(rt, a) {
         return false;
     }
-    if !write_desk(b) {
+    if !write_desk(rt, b) {
         return false;
     }
-    write_number(low(desks.size))
+    write_number(rt, low(desks.size))
 }
 
 fn whose_of(number: u32) -> Whose {
@@ -49,6 +48,7 @@ fn whose_of(number: u32) -> Whose {
 
 // Makes a change into the whole of an output.
 fn make<'a>(
+    rt: &impl Host,
     a: &'a [u8],
     b: &'a [u8],
     shared: &'a [u8],
@@ -63,14 +63,15 @@ fn make<'a>(
 ) -> bool {
     lay(out, seed);
     let desks = change_desks(a, b, shared, board_a, board_b, whose, k, present, new, out);
-    if write_desks(desks) {
-        return write_part(out);
+    if write_desks(rt, desks) {
+        return write_part(rt, out);
     }
     false
 }
 
 // The same into the front of an output, where it is long enough.
 fn make_front<'a>(
+    rt: &impl Host,
     a: &'a [u8],
     b: &'a [u8],
     shared: &'a [u8],
@@ -88,6 +89,7 @@ fn make_front<'a>(
         return false;
     }
     make(
+        rt,
         a,
         b,
         shared,
@@ -103,14 +105,15 @@ fn make_front<'a>(
 }
 
 // Fills a buffer from a place on, where it is long enough.
-fn fill_behind(buf: &mut [u8], from: usize, n: usize) -> bool {
+fn fill_behind(rt: &impl Host, buf: &mut [u8], from: usize, n: usize) -> bool {
     if buf.len() < from {
         return false;
     }
-    fill_front(&mut buf[from..], n)
+    fill_front(rt, &mut buf[from..], n)
 }
 
 fn change<'a>(
+    rt: &impl Host,
     op: u32,
     a: &'a [u8],
     b: &'a [u8],
@@ -126,10 +129,13 @@ fn change<'a>(
     seed: usize,
 ) -> bool {
     if op == 1 {
-        return write_desks(try_desks(a, b, shared, board_a, board_b, whose, k, present, new));
+        return write_desks(
+            rt,
+            try_desks(a, b, shared, board_a, board_b, whose, k, present, new),
+        );
     }
     make_front(
-        a, b, shared, board_a, board_b, whose, k, present, new, out, z, seed,
+        rt, a, b, shared, board_a, board_b, whose, k, present, new, out, z, seed,
     )
 }
 
@@ -153,6 +159,7 @@ fn length_in(head: &[u8], at: usize) -> usize
 
 // The change of this head; the bundles and the new bytes stand in the buffer up to these places.
 fn change_in(
+    rt: &impl Host,
     head: &[u8],
     buf: &[u8],
     board_a: Board,
@@ -164,6 +171,7 @@ fn change_in(
     out: &mut [u8],
 ) -> bool {
     change(
+        rt,
         word_at(head, 0),
         part(buf, 0, to_a),
         part(buf, to_a, to_b),
@@ -182,6 +190,7 @@ fn change_in(
 
 // The same, with the boards and the new bytes read first.
 fn answer_change(
+    rt: &impl Host,
     head: &[u8],
     buf: &mut [u8],
     to_a: usize,
@@ -191,54 +200,54 @@ fn answer_change(
 ) -> bool
     requires { to_s ≤ 3145734 }
 {
-    let board_a = read_board();
-    let board_b = read_board();
+    let board_a = read_board(rt);
+    let board_b = read_board(rt);
     let w = length_in(head, 28);
-    if !fill_behind(buf, to_s, w) {
+    if !fill_behind(rt, buf, to_s, w) {
         return false;
     }
     let end = to_s + w;
-    change_in(head, buf, board_a, board_b, to_a, to_b, to_s, end, out)
+    change_in(rt, head, buf, board_a, board_b, to_a, to_b, to_s, end, out)
 }
 
 // Answers the case of this head. The bundles and the new bytes stand in one buffer, which holds three of
 // the longest.
-fn answer_head(head: &[u8], buf: &mut [u8], out: &mut [u8]) -> bool {
+fn answer_head(rt: &impl Host, head: &[u8], buf: &mut [u8], out: &mut [u8]) -> bool {
     if !is_known(word_at(head, 0), word_at(head, 16)) {
         return false;
     }
     let to_a = length_in(head, 4);
     let to_b = to_a + length_in(head, 8);
     let to_s = to_b + length_in(head, 12);
-    if !fill_front(buf, to_s) {
+    if !fill_front(rt, buf, to_s) {
         return false;
     }
     if word_at(head, 0) == 0 {
-        return write_desk(judge_joined(part(buf, 0, to_a), part(buf, to_b, to_s)));
+        return write_desk(rt, judge_joined(part(buf, 0, to_a), part(buf, to_b, to_s)));
     }
-    answer_change(head, buf, to_a, to_b, to_s, out)
+    answer_change(rt, head, buf, to_a, to_b, to_s, out)
 }
 
 // Answers the next case; whether to go on.
-fn answer(buf: &mut [u8], out: &mut [u8]) -> bool {
+fn answer(rt: &impl Host, buf: &mut [u8], out: &mut [u8]) -> bool {
     let mut head = [0u8; 40];
-    if !fill(STDIN_FILENO, &mut head) {
+    if !fill(&mut rt.input(), &mut head) {
         return false;
     }
-    answer_head(&head, buf, out)
+    answer_head(rt, &head, buf, out)
 }
 
 // A proved loop has to end, and nothing says that the input does. So the loop counts its turns
 // down, from a number that no run uses up.
-fn answer_all(buf: &mut [u8], out: &mut [u8]) {
+fn answer_all(rt: &impl Host, buf: &mut [u8], out: &mut [u8]) {
     let mut turns = u64::MAX;
-    while turns > 0 && answer(buf, out) {
+    while turns > 0 && answer(rt, buf, out) {
         turns -= 1;
     }
 }
 
-fn main() {
+fn main(rt: HostRuntime) {
     let mut buf = [0u8; 3200000];
     let mut out = [0u8; 1048577];
-    answer_all(&mut buf, &mut out);
+    answer_all(&rt, &mut buf, &mut out);
 }

@@ -20,16 +20,16 @@ use cases::{fill_front, lay, low, read_board, write_board, write_file, write_num
 use drawer_bundles::{put_bundle, take_bundle};
 use drawer_text::put_list;
 use drawers::{Drawn, drawer_file, drawer_judge_in, drawer_make_in, drawer_state, drawer_try_in};
-use libc::STDIN_FILENO;
 use parts::part;
-use program_io::fill;
+use program_io::{Host, fill};
 
-fn write_drawn(drawn: Drawn) -> bool {
+fn write_drawn(rt: &impl Host, drawn: Drawn) -> bool {
     let board = drawn.board;
-    write_board(drawn.refusal, board)
+    write_board(rt, drawn.refusal, board)
 }
 
 fn make(
+    rt: &impl Host,
     drawer: &mut [u8],
     board: Board,
     k: usize,
@@ -38,99 +38,108 @@ fn make(
     work: &mut [u32],
 ) -> bool {
     let drawn = drawer_make_in(drawer, board, k, present, new, work);
-    if write_drawn(drawn) {
-        return write_part(drawer);
+    if write_drawn(rt, drawn) {
+        return write_part(rt, drawer);
     }
     false
 }
 
-fn change(head: &[u8], drawer: &mut [u8], new: &mut [u8], work: &mut [u32]) -> bool {
-    let board = read_board();
+fn change(
+    rt: &impl Host,
+    head: &[u8],
+    drawer: &mut [u8],
+    new: &mut [u8],
+    work: &mut [u32],
+) -> bool {
+    let board = read_board(rt);
     let w = word_at(head, 16) as usize;
-    if !fill_front(new, w) {
+    if !fill_front(rt, new, w) {
         return false;
     }
     let bytes = part(new, 0, w);
     let k = word_at(head, 8) as usize;
     let present = word_at(head, 12) == 1;
     if word_at(head, 0) == 1 {
-        return write_drawn(drawer_try_in(drawer, board, k, present, bytes, work));
+        return write_drawn(rt, drawer_try_in(drawer, board, k, present, bytes, work));
     }
-    make(drawer, board, k, present, bytes, work)
+    make(rt, drawer, board, k, present, bytes, work)
 }
 
-fn look_up(drawer: &[u8], k: usize) -> bool {
-    write_file(drawer_state(drawer, k), drawer_file(drawer, k))
+fn look_up(rt: &impl Host, drawer: &[u8], k: usize) -> bool {
+    write_file(rt, drawer_state(drawer, k), drawer_file(drawer, k))
 }
 
-fn put(drawer: &mut [u8], new: &mut [u8], w: usize) -> bool {
-    if !fill_front(new, w) {
+fn put(rt: &impl Host, drawer: &mut [u8], new: &mut [u8], w: usize) -> bool {
+    if !fill_front(rt, new, w) {
         return false;
     }
     let refusal = put_bundle(drawer, part(new, 0, w));
-    if write_number(refusal) {
-        return write_part(drawer);
+    if write_number(rt, refusal) {
+        return write_part(rt, drawer);
     }
     false
 }
 
-fn take(drawer: &[u8], out: &mut [u8], seed: usize) -> bool {
+fn take(rt: &impl Host, drawer: &[u8], out: &mut [u8], seed: usize) -> bool {
     lay(out, seed);
     let made = take_bundle(drawer, out);
-    if !write_number(made.refusal) {
+    if !write_number(rt, made.refusal) {
         return false;
     }
-    if write_number(low(made.length)) {
-        return write_part(out);
+    if write_number(rt, low(made.length)) {
+        return write_part(rt, out);
     }
     false
 }
 
 // Takes the bundle out into the front of an output, where that is long enough.
-fn take_front(drawer: &[u8], out: &mut [u8], z: usize, seed: usize) -> bool {
+fn take_front(rt: &impl Host, drawer: &[u8], out: &mut [u8], z: usize, seed: usize) -> bool {
     if out.len() < z {
         return false;
     }
-    take(drawer, &mut out[..z], seed)
+    take(rt, drawer, &mut out[..z], seed)
 }
 
-fn list(drawer: &[u8], out: &mut [u8]) -> bool {
+fn list(rt: &impl Host, drawer: &[u8], out: &mut [u8]) -> bool {
     let n = put_list(out, 0, drawer);
-    if write_number(low(n)) {
-        return write_part(part(out, 0, n));
+    if write_number(rt, low(n)) {
+        return write_part(rt, part(out, 0, n));
     }
     false
 }
 
 // Answers the case of this head over the drawer, which is read first.
 fn answer_drawer(
+    rt: &impl Host,
     head: &[u8],
     drawer: &mut [u8],
     new: &mut [u8],
     out: &mut [u8],
     work: &mut [u32],
 ) -> bool {
-    if !fill(STDIN_FILENO, drawer) {
+    if !fill(&mut rt.input(), drawer) {
         return false;
     }
     match word_at(head, 0) {
-        0 => write_drawn(drawer_judge_in(drawer, work)),
-        1 => change(head, drawer, new, work),
-        2 => change(head, drawer, new, work),
-        3 => look_up(drawer, word_at(head, 8) as usize),
-        4 => put(drawer, new, word_at(head, 16) as usize),
+        0 => write_drawn(rt, drawer_judge_in(drawer, work)),
+        1 => change(rt, head, drawer, new, work),
+        2 => change(rt, head, drawer, new, work),
+        3 => look_up(rt, drawer, word_at(head, 8) as usize),
+        4 => put(rt, drawer, new, word_at(head, 16) as usize),
         5 => take_front(
+            rt,
             drawer,
             out,
             word_at(head, 20) as usize,
             word_at(head, 24) as usize,
         ),
-        6 => list(drawer, out),
+        6 => list(rt, drawer, out),
         _ => false,
     }
 }
 
 fn answer_head(
+    rt: &impl Host,
     head: &[u8],
     drawer: &mut [u8],
     new: &mut [u8],
@@ -141,31 +150,37 @@ fn answer_head(
     if drawer.len() < n {
         return false;
     }
-    answer_drawer(head, &mut drawer[..n], new, out, work)
+    answer_drawer(rt, head, &mut drawer[..n], new, out, work)
 }
 
 // Answers the next case; whether to go on.
-fn answer(drawer: &mut [u8], new: &mut [u8], out: &mut [u8], work: &mut [u32]) -> bool {
+fn answer(
+    rt: &impl Host,
+    drawer: &mut [u8],
+    new: &mut [u8],
+    out: &mut [u8],
+    work: &mut [u32],
+) -> bool {
     let mut head = [0u8; 28];
-    if !fill(STDIN_FILENO, &mut head) {
+    if !fill(&mut rt.input(), &mut head) {
         return false;
     }
-    answer_head(&head, drawer, new, out, work)
+    answer_head(rt, &head, drawer, new, out, work)
 }
 
 // A proved loop has to end, and nothing says that the input does. So the loop counts its turns
 // down, from a number that no run uses up.
-fn answer_all(drawer: &mut [u8], new: &mut [u8], out: &mut [u8], work: &mut [u32]) {
+fn answer_all(rt: &impl Host, drawer: &mut [u8], new: &mut [u8], out: &mut [u8], work: &mut [u32]) {
     let mut turns = u64::MAX;
-    while turns > 0 && answer(drawer, new, out, work) {
+    while turns > 0 && answer(rt, drawer, new, out, work) {
         turns -= 1;
     }
 }
 
-fn main() {
+fn main(rt: HostRuntime) {
     let mut drawer = [0u8; 1048577];
     let mut new = [0u8; 1048577];
     let mut out = [0u8; 1048577];
     let mut work = [0u32; 794702];
-    answer_all(&mut drawer, &mut new, &mut out, &mut work);
+    answer_all(&rt, &mut drawer, &mut new, &mut out, &mut work);
 }

@@ -15,7 +15,9 @@ use gate_lists::{Which, file_count};
 use gate_names::put_file_of;
 use output::put_byte;
 use parts::part;
-use program_io::{Input, complain, read_all};
+use program_io::{Host, Input, argument_in, complain, fail, open_read, read_all};
+use std::fs::OpenFile;
+use std::io::{Error, ErrorKind, Write};
 
 // What stands under a name: n bytes, nothing, or what cannot be read.
 #[derive(Clone, Copy)]
@@ -27,12 +29,13 @@ pub enum Found {
 
 // Puts an argument of the program at the front of a path, and answers its length; 0, which it says,
 // where there is none that can be a path.
-pub fn argument(i: usize, path: &mut [u8]) -> usize
+pub fn argument(rt: &impl Host, i: usize, path: &mut [u8]) -> usize
     ensures { result ≤ length path.new }
 {
-    let n = os::arg(i, path);
+    let n = argument_in(rt, i, path);
     if n == 0 {
         complain(
+            rt,
             b"argument",
             b"empty or too long; name a file or a folder by at most 4,095 bytes",
         );
@@ -41,51 +44,68 @@ pub fn argument(i: usize, path: &mut [u8]) -> usize
 }
 
 // Reads a file of that name to its end, or until the buffer is full; says so where it cannot be read.
-pub fn read_named(name: &[u8], buf: &mut [u8]) -> Found
+pub fn read_named(rt: &impl Host, name: &[u8], buf: &mut [u8]) -> Found
     ensures { FoundWithin result (length buf.new) }
 {
-    let fd = os::open_read(name);
-    if fd < 0 {
-        if os::errno() == libc::ENOENT {
-            return Found::Nothing;
-        }
-        os::fail(name);
-        return Found::Failed;
-    }
-    match read_all(fd, buf) {
-        Input::Whole { n } => {
-            libc::close(fd);
-            Found::Bytes { n }
-        }
-        Input::Failed => {
-            os::fail(name);
-            libc::close(fd);
+    match open_read(rt, name) {
+        Ok(mut file) => match read_all(&mut file, buf) {
+            Input::Whole { n } => Found::Bytes { n },
+            Input::Failed { error } => {
+                fail(rt, name, &error);
+                Found::Failed
+            }
+        },
+        Err(error) => {
+            if error.kind() == ErrorKind::NotFound {
+                return Found::Nothing;
+            }
+            fail(rt, name, &error);
             Found::Failed
         }
     }
 }
 
-// Writes the whole of a file that was opened under that name, and closes it; says so where that fails,
-// also of a file that could not be opened.
-pub fn write_opened(fd: i32, name: &[u8], bytes: &[u8]) -> bool {
-    if fd < 0 {
-        os::fail(name);
-        return false;
+// Brings a file's bytes to the device that keeps them. A pipe or a device keeps none, and says so as an input
+// that is not valid.
+fn sync<F: OpenFile>(file: &F) -> Result<(), Error> {
+    match file.sync_all() {
+        Err(error) if error.kind() == ErrorKind::InvalidInput => Ok(()),
+        done => done,
     }
-    if io::write_all(fd, bytes) {
-        if libc::close(fd) == 0 {
-            return true;
-        }
-        os::fail(name);
-        return false;
-    }
-    os::fail(name);
-    libc::close(fd);
-    false
 }
 
-fn complain_long(path: &[u8], folder: usize) {
+fn write_whole<F: Write + OpenFile>(file: &mut F, bytes: &[u8]) -> Result<(), Error> {
+    file.write_all(bytes)?;
+    sync(file)
+}
+
+// Writes the whole of a file that was opened under that name, and closes it; says so where that fails,
+// also of a file that could not be opened. Closing it tells no error, so its bytes are brought to their device
+// before, which tells it.
+pub fn write_opened<H: Host>(
+    rt: &H,
+    opened: Result<H::File, Error>,
+    name: &[u8],
+    bytes: &[u8],
+) -> bool {
+    match opened {
+        Ok(mut file) => match write_whole(&mut file, bytes) {
+            Ok(()) => true,
+            Err(error) => {
+                fail(rt, name, &error);
+                false
+            }
+        },
+        Err(error) => {
+            fail(rt, name, &error);
+            false
+        }
+    }
+}
+
+fn complain_long(rt: &impl Host, path: &[u8], folder: usize) {
     complain(
+        rt,
         part(path, 0, folder),
         b"too long a name for a folder; move it nearer to the root",
     );
@@ -93,7 +113,7 @@ fn complain_long(path: &[u8], folder: usize) {
 
 // The length of the path of the gate's file k in the folder that the first `folder` bytes of `path` name,
 // which it puts there; 0, which it says, where it has no room.
-pub fn path_of(which: Which, path: &mut [u8], folder: usize, k: usize) -> usize
+pub fn path_of(rt: &impl Host, which: Which, path: &mut [u8], folder: usize, k: usize) -> usize
     ensures value { result ≡ folder_path_length which path.old folder k }
     ensures path_after { path.new ≡ (path_put which path.old folder k).bytes }
 {
@@ -102,35 +122,37 @@ pub fn path_of(which: Which, path: &mut [u8], folder: usize, k: usize) -> usize
     if end < path.len() {
         return end;
     }
-    complain_long(path, folder);
+    complain_long(rt, path, folder);
     0
 }
 
 // Whether they name a folder that can be read; says so where they do not.
-fn is_folder(path: &mut [u8], folder: usize) -> bool {
+fn is_folder(rt: &impl Host, path: &mut [u8], folder: usize) -> bool {
     if path.len() < 2 {
         return false;
     }
     if path.len() - 2 < folder {
-        complain_long(path, folder);
+        complain_long(rt, path, folder);
         return false;
     }
     put_part(path, folder, b"/.");
-    let fd = os::open_read(part(path, 0, folder + 2));
-    if fd < 0 {
-        os::fail(part(path, 0, folder));
-        complain(
-            part(path, 0, folder),
-            b"no folder that can be read; name the folder in which the files of the set stand",
-        );
-        return false;
+    match open_read(rt, part(path, 0, folder + 2)) {
+        Ok(_) => true,
+        Err(error) => {
+            fail(rt, part(path, 0, folder), &error);
+            complain(
+                rt,
+                part(path, 0, folder),
+                b"no folder that can be read; name the folder in which the files of the set stand",
+            );
+            false
+        }
     }
-    libc::close(fd);
-    true
 }
 
 // Changes file k of a bundle, and answers the new bundle's length; 0, which it says, where it is refused.
 fn change<'a>(
+    rt: &impl Host,
     which: Which,
     folder: &[u8],
     bundle: &'a [u8],
@@ -144,6 +166,7 @@ fn change<'a>(
     let made = make_bundle(bundle, file_count(which), k, present, new, out);
     if made.refusal != 0 {
         complain(
+            rt,
             folder,
             b"its files come to more than 1,048,576 bytes with the header; shorten them",
         );
@@ -155,6 +178,7 @@ fn change<'a>(
 // Puts file k of the folder into the bundle of the first n bytes of one buffer, with the new bundle at
 // the front of the other; its length, or 0 where that fails.
 fn put_file(
+    rt: &impl Host,
     which: Which,
     path: &mut [u8],
     folder: usize,
@@ -166,20 +190,22 @@ fn put_file(
 ) -> usize
     ensures { Bundled (gate_called which).files result new.new }
 {
-    let end = path_of(which, path, folder, k);
+    let end = path_of(rt, which, path, folder, k);
     if end == 0 {
         return 0;
     }
-    match read_named(part(path, 0, end), file) {
+    match read_named(rt, part(path, 0, end), file) {
         Found::Bytes { n: size } => {
             if 1048576 < size {
                 complain(
+                    rt,
                     part(path, 0, end),
                     b"longer than 1,048,576 bytes, the most that a whole set may have; shorten it",
                 );
                 return 0;
             }
             change(
+                rt,
                 which,
                 part(path, 0, folder),
                 part(old, 0, n),
@@ -190,6 +216,7 @@ fn put_file(
             )
         }
         Found::Nothing => change(
+            rt,
             which,
             part(path, 0, folder),
             part(old, 0, n),
@@ -200,6 +227,7 @@ fn put_file(
         ),
         Found::Failed => {
             complain(
+                rt,
                 part(path, 0, end),
                 b"not read; make it a file that can be read, or take it out of the folder",
             );
@@ -223,6 +251,7 @@ fn put_none(which: Which, bundle: &mut [u8]) -> usize {
 // of `path`; a file that is missing is omitted. The bundle is made file by file, in `bundle` and `other`
 // by turns, from the one with none; each gate has an even number of files.
 pub fn gather(
+    rt: &impl Host,
     which: Which,
     path: &mut [u8],
     folder: usize,
@@ -232,18 +261,18 @@ pub fn gather(
 ) -> usize
     ensures { Bundled (gate_called which).files result bundle.new }
 {
-    if !is_folder(path, folder) {
+    if !is_folder(rt, path, folder) {
         return 0;
     }
     let files = file_count(which);
     let mut n = put_none(which, bundle);
     let mut k = 0;
     while k < files {
-        let half = put_file(which, path, folder, k, file, bundle, n, other);
+        let half = put_file(rt, which, path, folder, k, file, bundle, n, other);
         if half == 0 {
             return 0;
         }
-        n = put_file(which, path, folder, k + 1, file, other, half, bundle);
+        n = put_file(rt, which, path, folder, k + 1, file, other, half, bundle);
         if n == 0 {
             return 0;
         }

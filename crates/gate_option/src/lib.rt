@@ -1,10 +1,9 @@
 // Which gate an argument of a program names, and which argument what is judged by it.
 #![tactic(auto)]
 
-ghost use Rattle.std.specs.Prelude.{◌≡◌};
+ghost use Rattle.std.specs.Prelude.{◌≡◌, true};
 ghost use Rattle.gate_option.specs.Option.{gate_named, asked_by};
 
-use check::same;
 use gate_lists::Which;
 
 // A gate, or none.
@@ -12,6 +11,13 @@ use gate_lists::Which;
 pub enum Named {
     Gate { which: Which },
     Nothing,
+}
+
+// Whether two texts are the same.
+fn same(a: &[u8], b: &[u8]) -> bool
+    ensures { (result ≡ true → a.now ≡ b.now) × (a.now ≡ b.now → result ≡ true) }
+{
+    a == b
 }
 
 // Document 01's gate has no word: it is the one where no argument names another.

@@ -23,9 +23,8 @@ use cases::{
     fill_front, lay, read_board, write_board, write_file, write_part, write_reason, write_sized,
 };
 use gate::{Verdict, judge, judge_in, make_change, make_in, reason, reason_in, try_change, try_in};
-use libc::STDIN_FILENO;
 use parts::part;
-use program_io::fill;
+use program_io::{Host, fill};
 use reason_answer::Reason;
 
 fn file_asked(head: &[u8]) -> usize {
@@ -46,11 +45,11 @@ fn is_made(head: &[u8]) -> bool {
     word_at(head, 0) % 4 == 2
 }
 
-fn board_asked(head: &[u8]) -> Board {
+fn board_asked(rt: &impl Host, head: &[u8]) -> Board {
     if is_judged(head) {
         return fresh();
     }
-    read_board()
+    read_board(rt)
 }
 
 fn length_asked(head: &[u8]) -> usize {
@@ -133,6 +132,7 @@ fn lent_reason(bundle: &[u8], mark: usize) -> Reason {
 
 // Writes the refusal and the board, and of a change that is made the new length between them and the output behind them.
 fn answer_verdict<'a>(
+    rt: &impl Host,
     head: &[u8],
     bundle: &'a [u8],
     board: Board,
@@ -143,16 +143,17 @@ fn answer_verdict<'a>(
     let verdict = verdict_of(head, bundle, board, new, out);
     let after = verdict.board;
     if is_made(head) {
-        if write_sized(verdict.refusal, verdict.length, after) {
-            return write_part(out);
+        if write_sized(rt, verdict.refusal, verdict.length, after) {
+            return write_part(rt, out);
         }
         return false;
     }
-    write_board(verdict.refusal, after)
+    write_board(rt, verdict.refusal, after)
 }
 
 // The call with the front of an output, where it is long enough.
 fn answer_front<'a>(
+    rt: &impl Host,
     head: &[u8],
     bundle: &'a [u8],
     board: Board,
@@ -163,68 +164,80 @@ fn answer_front<'a>(
     if out.len() < room {
         return false;
     }
-    answer_verdict(head, bundle, board, new, &mut out[..room])
+    answer_verdict(rt, head, bundle, board, new, &mut out[..room])
 }
 
 // The same, once the board and the new bytes are read.
-fn answer_call(head: &[u8], bundle: &[u8], news: &mut [u8], out: &mut [u8]) -> bool {
-    let board = board_asked(head);
+fn answer_call(
+    rt: &impl Host,
+    head: &[u8],
+    bundle: &[u8],
+    news: &mut [u8],
+    out: &mut [u8],
+) -> bool {
+    let board = board_asked(rt, head);
     let n = length_asked(head);
-    if !fill_front(news, n) {
+    if !fill_front(rt, news, n) {
         return false;
     }
-    answer_front(head, bundle, board, part(news, 0, n), out)
+    answer_front(rt, head, bundle, board, part(news, 0, n), out)
 }
 
 // ---- The cases
 
-fn tell(lent: bool, bundle: &[u8], mark: usize) -> bool {
+fn tell(rt: &impl Host, lent: bool, bundle: &[u8], mark: usize) -> bool {
     if lent {
-        return write_reason(lent_reason(bundle, mark));
+        return write_reason(rt, lent_reason(bundle, mark));
     }
-    write_reason(reason(bundle, mark))
+    write_reason(rt, reason(bundle, mark))
 }
 
-fn look_up(bundle: &[u8], k: usize) -> bool {
-    write_file(file_state(bundle, 20, k), file_part(bundle, 20, k))
+fn look_up(rt: &impl Host, bundle: &[u8], k: usize) -> bool {
+    write_file(rt, file_state(bundle, 20, k), file_part(bundle, 20, k))
 }
 
 // Answers what is asked of a bundle; whether to go on.
-fn answer_case(head: &[u8], bundle: &[u8], news: &mut [u8], out: &mut [u8]) -> bool {
+fn answer_case(
+    rt: &impl Host,
+    head: &[u8],
+    bundle: &[u8],
+    news: &mut [u8],
+    out: &mut [u8],
+) -> bool {
     match word_at(head, 0) {
-        0 | 1 | 2 | 4 | 5 | 6 => answer_call(head, bundle, news, out),
-        3 => look_up(bundle, file_asked(head)),
-        7 => tell(false, bundle, file_asked(head)),
-        8 => tell(true, bundle, file_asked(head)),
+        0 | 1 | 2 | 4 | 5 | 6 => answer_call(rt, head, bundle, news, out),
+        3 => look_up(rt, bundle, file_asked(head)),
+        7 => tell(rt, false, bundle, file_asked(head)),
+        8 => tell(rt, true, bundle, file_asked(head)),
         _ => false,
     }
 }
 
 // Answers the next case; whether to go on.
-fn answer(buf: &mut [u8], news: &mut [u8], out: &mut [u8]) -> bool {
+fn answer(rt: &impl Host, buf: &mut [u8], news: &mut [u8], out: &mut [u8]) -> bool {
     let mut head = [0u8; 28];
-    if !fill(STDIN_FILENO, &mut head) {
+    if !fill(&mut rt.input(), &mut head) {
         return false;
     }
     let n = word_at(&head, 4) as usize;
-    if !fill_front(buf, n) {
+    if !fill_front(rt, buf, n) {
         return false;
     }
-    answer_case(&head, part(buf, 0, n), news, out)
+    answer_case(rt, &head, part(buf, 0, n), news, out)
 }
 
 // A proved loop has to end, and nothing says that the input does. So the loop counts its turns
 // down, from a number that no run uses up.
-fn answer_all(buf: &mut [u8], news: &mut [u8], out: &mut [u8]) {
+fn answer_all(rt: &impl Host, buf: &mut [u8], news: &mut [u8], out: &mut [u8]) {
     let mut turns = u64::MAX;
-    while turns > 0 && answer(buf, news, out) {
+    while turns > 0 && answer(rt, buf, news, out) {
         turns -= 1;
     }
 }
 
-fn main() {
+fn main(rt: HostRuntime) {
     let mut buf = [0u8; 1048577];
     let mut news = [0u8; 1048577];
     let mut out = [0u8; 1048577];
-    answer_all(&mut buf, &mut news, &mut out);
+    answer_all(&rt, &mut buf, &mut news, &mut out);
 }

@@ -22,9 +22,8 @@ use bundle::{Made, file_part, file_state};
 use bundle_bytes::{put_word, word_at};
 use cases::{fill_front, get_marks, lay, low, put_marks, write_file, write_part, write_reason};
 use gate_lists::{Which, file_count, judge_lists, make_lists, reason_lists, try_lists};
-use libc::STDIN_FILENO;
 use parts::part;
-use program_io::fill;
+use program_io::{Host, fill};
 
 #[derive(Clone, Copy)]
 enum Gate {
@@ -61,6 +60,7 @@ fn marks_of(which: Which) -> usize
 // ---- The calls with a board. `bytes` has the handed board, and then the answer.
 
 fn judge_with(
+    rt: &impl Host,
     which: Which,
     bundle: &[u8],
     bytes: &mut [u8],
@@ -72,15 +72,16 @@ fn judge_with(
     let made = judge_lists(which, bundle, work, kinds, places, companions);
     put_marks(bytes, kinds, places, companions);
     put_word(bytes, 8, made.refusal);
-    write_part(part(bytes, 8, 12 + 12 * marks_of(which)))
+    write_part(rt, part(bytes, 8, 12 + 12 * marks_of(which)))
 }
 
-fn judge(which: Which, bundle: &[u8], bytes: &mut [u8], work: &mut [u32]) -> bool {
+fn judge(rt: &impl Host, which: Which, bundle: &[u8], bytes: &mut [u8], work: &mut [u32]) -> bool {
     let n = marks_of(which);
     let mut kinds = [9u32; 96];
     let mut places = [9usize; 96];
     let mut companions = [9usize; 96];
     judge_with(
+        rt,
         which,
         bundle,
         bytes,
@@ -92,10 +93,10 @@ fn judge(which: Which, bundle: &[u8], bytes: &mut [u8], work: &mut [u32]) -> boo
 }
 
 // Writes what a change answered, and the new bundle's length.
-fn write_made(which: Which, made: Made, bytes: &mut [u8]) -> bool {
+fn write_made(rt: &impl Host, which: Which, made: Made, bytes: &mut [u8]) -> bool {
     put_word(bytes, 4, made.refusal);
     put_word(bytes, 8, low(made.length));
-    write_part(part(bytes, 4, 12 + 12 * marks_of(which)))
+    write_part(rt, part(bytes, 4, 12 + 12 * marks_of(which)))
 }
 
 // Tries the change of this head, or makes it.
@@ -157,6 +158,7 @@ fn change_of<'a>(
 
 // Makes a change into the whole of an output.
 fn make<'a>(
+    rt: &impl Host,
     which: Which,
     head: &[u8],
     bundle: &'a [u8],
@@ -167,14 +169,15 @@ fn make<'a>(
 ) -> bool {
     lay(out, word_at(head, 28) as usize);
     let made = change_of(which, head, bundle, new, out, bytes, work);
-    if write_made(which, made, bytes) {
-        return write_part(out);
+    if write_made(rt, which, made, bytes) {
+        return write_part(rt, out);
     }
     false
 }
 
 // The same into the front of an output, where it is long enough.
 fn make_front<'a>(
+    rt: &impl Host,
     which: Which,
     head: &[u8],
     bundle: &'a [u8],
@@ -187,11 +190,12 @@ fn make_front<'a>(
     if out.len() < room {
         return false;
     }
-    make(which, head, bundle, new, &mut out[..room], bytes, work)
+    make(rt, which, head, bundle, new, &mut out[..room], bytes, work)
 }
 
 // Tries or makes a change, once the board and the new bytes are read.
 fn change(
+    rt: &impl Host,
     which: Which,
     head: &[u8],
     bundle: &[u8],
@@ -201,29 +205,30 @@ fn change(
     work: &mut [u32],
 ) -> bool {
     let n = word_at(head, 20) as usize;
-    if !fill_front(bytes, 12 * marks_of(which)) {
+    if !fill_front(rt, bytes, 12 * marks_of(which)) {
         return false;
     }
-    if !fill_front(news, n) {
+    if !fill_front(rt, news, n) {
         return false;
     }
     let new = part(news, 0, n);
     if word_at(head, 4) == 1 {
         let made = change_of(which, head, bundle, new, out, bytes, work);
-        return write_made(which, made, bytes);
+        return write_made(rt, which, made, bytes);
     }
-    make_front(which, head, bundle, new, out, bytes, work)
+    make_front(rt, which, head, bundle, new, out, bytes, work)
 }
 
 // ---- The cases
 
-fn look_up(which: Which, bundle: &[u8], k: usize) -> bool {
+fn look_up(rt: &impl Host, which: Which, bundle: &[u8], k: usize) -> bool {
     let n = file_count(which);
-    write_file(file_state(bundle, n, k), file_part(bundle, n, k))
+    write_file(rt, file_state(bundle, n, k), file_part(bundle, n, k))
 }
 
 // Answers what is asked of a bundle; whether to go on.
 fn answer_case(
+    rt: &impl Host,
     which: Which,
     head: &[u8],
     bundle: &[u8],
@@ -234,17 +239,18 @@ fn answer_case(
 ) -> bool {
     let k = word_at(head, 12) as usize;
     match word_at(head, 4) {
-        0 => judge(which, bundle, bytes, work),
-        1 => change(which, head, bundle, news, out, bytes, work),
-        2 => change(which, head, bundle, news, out, bytes, work),
-        3 => look_up(which, bundle, k),
-        7 => write_reason(reason_lists(which, bundle, k, work)),
+        0 => judge(rt, which, bundle, bytes, work),
+        1 => change(rt, which, head, bundle, news, out, bytes, work),
+        2 => change(rt, which, head, bundle, news, out, bytes, work),
+        3 => look_up(rt, which, bundle, k),
+        7 => write_reason(rt, reason_lists(which, bundle, k, work)),
         _ => false,
     }
 }
 
 // Answers the next case; whether to go on.
 fn answer(
+    rt: &impl Host,
     buf: &mut [u8],
     news: &mut [u8],
     out: &mut [u8],
@@ -252,17 +258,17 @@ fn answer(
     work: &mut [u32],
 ) -> bool {
     let mut head = [0u8; 32];
-    if !fill(STDIN_FILENO, &mut head) {
+    if !fill(&mut rt.input(), &mut head) {
         return false;
     }
     let n = word_at(&head, 8) as usize;
-    if !fill_front(buf, n) {
+    if !fill_front(rt, buf, n) {
         return false;
     }
     let gate = gate_of(word_at(&head, 0));
     match gate {
         Gate::Known { which } => {
-            answer_case(which, &head, part(buf, 0, n), news, out, bytes, work)
+            answer_case(rt, which, &head, part(buf, 0, n), news, out, bytes, work)
         }
         Gate::Unknown => false,
     }
@@ -270,19 +276,26 @@ fn answer(
 
 // A proved loop has to end, and nothing says that the input does. So the loop counts its turns
 // down, from a number that no run uses up.
-fn answer_all(buf: &mut [u8], news: &mut [u8], out: &mut [u8], bytes: &mut [u8], work: &mut [u32]) {
+fn answer_all(
+    rt: &impl Host,
+    buf: &mut [u8],
+    news: &mut [u8],
+    out: &mut [u8],
+    bytes: &mut [u8],
+    work: &mut [u32],
+) {
     let mut turns = u64::MAX;
-    while turns > 0 && answer(buf, news, out, bytes, work) {
+    while turns > 0 && answer(rt, buf, news, out, bytes, work) {
         turns -= 1;
     }
 }
 
-fn main() {
+fn main(rt: HostRuntime) {
     let mut buf = [0u8; 1048577];
     let mut news = [0u8; 1048577];
     let mut out = [0u8; 1048577];
     let mut bytes = [0u8; 1164];
     // a workspace with numbers in it that no file leaves there
     let mut work = [0xA5A5A5A5u32; 794702];
-    answer_all(&mut buf, &mut news, &mut out, &mut bytes, &mut work);
+    answer_all(&rt, &mut buf, &mut news, &mut out, &mut bytes, &mut work);
 }

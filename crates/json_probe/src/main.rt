@@ -13,8 +13,7 @@ use json_date::{Date, date_at};
 use json_number::{Integer, Sign, Value, integer_of, number_at, same_value, sign_of};
 use json_same::{Case, same_text, text_is};
 use json_text::{TextType, read_text};
-use libc::{STDIN_FILENO, STDOUT_FILENO};
-use program_io::{fill, put_long};
+use program_io::{Host, fill, put_long, write_out};
 
 // Which answer it is, and up to three numbers that go with it.
 #[derive(Clone, Copy)]
@@ -204,9 +203,9 @@ fn answer_of(op: u32, s: &[u8], at: usize, t: &[u8], other: u32) -> Answer {
     }
 }
 
-fn read_header() -> Header {
+fn read_header(rt: &impl Host) -> Header {
     let mut bytes = [0u8; 20];
-    if !fill(STDIN_FILENO, &mut bytes) {
+    if !fill(&mut rt.input(), &mut bytes) {
         return Header::Nothing;
     }
     Header::Asks {
@@ -219,14 +218,14 @@ fn read_header() -> Header {
 }
 
 // The answer to the next case, whose bytes of A and B go to the front of two buffers.
-fn next_answer(a: &mut [u8], b: &mut [u8]) -> Next {
+fn next_answer(rt: &impl Host, a: &mut [u8], b: &mut [u8]) -> Next {
     let Header::Asks {
         op,
         at,
         other,
         n,
         m,
-    } = read_header()
+    } = read_header(rt)
     else {
         return Next::End;
     };
@@ -236,10 +235,10 @@ fn next_answer(a: &mut [u8], b: &mut [u8]) -> Next {
     if b.len() < m {
         return Next::End;
     }
-    if !fill(STDIN_FILENO, &mut a[..n]) {
+    if !fill(&mut rt.input(), &mut a[..n]) {
         return Next::End;
     }
-    if !fill(STDIN_FILENO, &mut b[..m]) {
+    if !fill(&mut rt.input(), &mut b[..m]) {
         return Next::End;
     }
     Next::Answered(answer_of(op, &a[..n], at, &b[..m], other))
@@ -256,33 +255,33 @@ fn put_answer(out: &mut [u8], at: usize, answer: Answer)
 }
 
 // Answers as many cases as the output has room for and writes the answers; whether to go on.
-fn answer_some(a: &mut [u8], b: &mut [u8], out: &mut [u8]) -> bool {
+fn answer_some(rt: &impl Host, a: &mut [u8], b: &mut [u8], out: &mut [u8]) -> bool {
     let mut used = 0;
     while used + 32 <= out.len() {
-        match next_answer(a, b) {
+        match next_answer(rt, a, b) {
             Next::Answered(answer) => put_answer(out, used, answer),
             Next::End => {
-                io::write_all(STDOUT_FILENO, &out[..used]);
+                write_out(rt, &out[..used]);
                 return false;
             }
         }
         used += 32;
     }
-    io::write_all(STDOUT_FILENO, &out[..used])
+    write_out(rt, &out[..used])
 }
 
 // A proved loop has to end, and nothing says that the input does. So the loop counts its turns
 // down, from a number that no run uses up.
-fn answer_all(a: &mut [u8], b: &mut [u8], out: &mut [u8]) {
+fn answer_all(rt: &impl Host, a: &mut [u8], b: &mut [u8], out: &mut [u8]) {
     let mut turns = u64::MAX;
-    while turns > 0 && answer_some(a, b, out) {
+    while turns > 0 && answer_some(rt, a, b, out) {
         turns -= 1;
     }
 }
 
-fn main() {
+fn main(rt: HostRuntime) {
     let mut a = [0u8; 1048576];
     let mut b = [0u8; 1048576];
     let mut out = [0u8; 32768];
-    answer_all(&mut a, &mut b, &mut out);
+    answer_all(&rt, &mut a, &mut b, &mut out);
 }

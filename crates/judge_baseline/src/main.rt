@@ -6,9 +6,8 @@ ghost use Rattle.std.specs.Prelude.{◌≡◌, ◌≤◌, length, take};
 ghost use Rattle.judge_baseline.specs.Printed.{printed};
 
 use gate_baseline::{fresh, judge, report_board};
-use libc::STDIN_FILENO;
 use parts::part;
-use program_io::{Input, print, read_all};
+use program_io::{Host, Input, fail, print, read_all};
 
 // Puts the text of a bundle's judgement at the front of an output, and answers its length.
 fn put_judgement(bundle: &[u8], out: &mut [u8]) -> usize
@@ -24,18 +23,18 @@ fn put_judgement(bundle: &[u8], out: &mut [u8]) -> usize
 }
 
 // Judges standard input, with memory for the bundle and a byte more.
-fn answer(bundle: &mut [u8]) {
-    match read_all(STDIN_FILENO, bundle) {
+fn answer(rt: &impl Host, bundle: &mut [u8]) {
+    match read_all(&mut rt.input(), bundle) {
         Input::Whole { n } => {
             let mut text = [0u8; 6400];
             let length = put_judgement(part(bundle, 0, n), &mut text);
-            print(part(&text, 0, length));
+            print(rt, part(&text, 0, length));
         }
-        Input::Failed => os::fail(b"standard input"),
+        Input::Failed { error } => fail(rt, b"standard input", &error),
     }
 }
 
-fn main() {
+fn main(rt: HostRuntime) {
     let mut bundle = [0u8; 65537];
-    answer(&mut bundle);
+    answer(&rt, &mut bundle);
 }

@@ -17,7 +17,6 @@ ghost use Rattle.std.specs.Prelude.{◌≤◌};
 
 use board::report_board;
 use bundle_bytes::{put_part, put_word};
-use check::same;
 use drawer_bundles::{put_bundle, take_bundle};
 use drawer_change::change_drawer;
 use drawer_held::drawer_fault;
@@ -25,11 +24,16 @@ use drawer_text::{put_change, put_list};
 use drawers::drawer_judge_in;
 use folder::{Found, argument, read_named};
 use gate_lists::Which;
-use libc::STDOUT_FILENO;
 use parts::part;
-use program_io::{complain, print};
+use program_io::{
+    Host, argument_count, argument_in, complain, fail, open_overwrite, open_read, path_text, print,
+    write_decimal,
+};
 use reason_text::reasons;
 use report::put_counted;
+use std::fs;
+use std::fs::OpenFile;
+use std::io::{Error, ErrorKind, Write};
 
 #[derive(Clone, Copy)]
 enum Command {
@@ -52,43 +56,43 @@ const TOO_MUCH: usize = 1048577;
 // ---- The arguments
 
 fn of_file(word: &[u8]) -> Command {
-    if same(word, b"list") {
+    if word == b"list".as_slice() {
         return Command::List;
     }
-    if same(word, b"judge") {
+    if word == b"judge".as_slice() {
         return Command::Judge;
     }
-    if same(word, b"marks") {
+    if word == b"marks".as_slice() {
         return Command::Marks;
     }
     Command::Unknown
 }
 
 fn of_file_and_one(word: &[u8]) -> Command {
-    if same(word, b"new") {
+    if word == b"new".as_slice() {
         return Command::New;
     }
-    if same(word, b"withdraw") {
+    if word == b"withdraw".as_slice() {
         return Command::Withdraw;
     }
-    if same(word, b"fill") {
+    if word == b"fill".as_slice() {
         return Command::Fill;
     }
-    if same(word, b"take") {
+    if word == b"take".as_slice() {
         return Command::Take;
     }
     Command::Unknown
 }
 
 // The command of the first argument, where it has as many behind it as it takes.
-fn what_is_asked() -> Command {
+fn what_is_asked(rt: &impl Host) -> Command {
     let mut word = [0u8; 16];
-    let n = os::arg(1, &mut word);
-    match os::arg_count() {
+    let n = argument_in(rt, 1, &mut word);
+    match argument_count(rt) {
         3 => of_file(part(&word, 0, n)),
         4 => of_file_and_one(part(&word, 0, n)),
         5 => {
-            if same(part(&word, 0, n), b"put") {
+            if part(&word, 0, n) == b"put".as_slice() {
                 return Command::Put;
             }
             Command::Unknown
@@ -141,95 +145,114 @@ fn number_in(text: &[u8]) -> usize {
 }
 
 // The number that the third argument is, NO_NUMBER, which it says, where it is none.
-fn number_asked(about: &[u8], text: &[u8]) -> usize {
+fn number_asked(rt: &impl Host, about: &[u8], text: &[u8]) -> usize {
     let mut word = [0u8; 16];
-    let n = os::arg(3, &mut word);
+    let n = argument_in(rt, 3, &mut word);
     let number = number_in(part(&word, 0, n));
     if number == NO_NUMBER {
-        complain(about, text);
+        complain(rt, about, text);
     }
     number
 }
 
-fn file_asked() -> usize {
-    number_asked(b"NUMBER", b"name the file by its number, 0 to 19")
+fn file_asked(rt: &impl Host) -> usize {
+    number_asked(rt, b"NUMBER", b"name the file by its number, 0 to 19")
 }
 
 // ---- What is said
 
 // What is wrong with a drawer or a bundle of that name, by the number of the refusal.
-fn refuse(name: &[u8], refusal: u32) {
+fn refuse(rt: &impl Host, name: &[u8], refusal: u32) {
     let mut text = [0u8; 32];
     let n = put_counted(&mut text, 0, b"bundle ", refusal as usize);
-    print(part(&text, 0, n));
+    print(rt, part(&text, 0, n));
     match refusal {
         1 => complain(
+            rt,
             name,
             b"refused as 1: under 164 or over 1,048,576 bytes; give it a length between them",
         ),
         2 => complain(
+            rt,
             name,
             b"refused as 2: its first number is not 20; name a drawer or a bundle of a set",
         ),
         3 => complain(
+            rt,
             name,
             b"refused as 3: its offsets and lengths break the layout; make it anew from the files of the set",
         ),
         4 => complain(
+            rt,
             name,
             b"refused as 4: a set has files 0 to 19; name one of these",
         ),
         _ => complain(
+            rt,
             name,
             b"refused as 11: no room: 164 and the lengths of all its files would be more bytes than it has; withdraw a file, or fill a longer drawer",
         ),
     }
 }
 
-fn print_list(d: &[u8]) {
+fn print_list(rt: &impl Host, d: &[u8]) {
     let mut text = [0u8; 4096];
     let n = put_list(&mut text, 0, d);
-    print(part(&text, 0, n));
+    print(rt, part(&text, 0, n));
 }
 
-fn print_change(d: &[u8], k: usize) {
+fn print_change(rt: &impl Host, d: &[u8], k: usize) {
     let mut text = [0u8; 256];
     let n = put_change(&mut text, 0, d, k);
-    print(part(&text, 0, n));
+    print(rt, part(&text, 0, n));
 }
 
 // ---- Files
 
+fn rename(rt: &impl Host, from: &[u8], to: &[u8]) -> Result<(), Error> {
+    fs::rename(rt, path_text(from)?, path_text(to)?)
+}
+
+fn unlink(rt: &impl Host, name: &[u8]) -> Result<(), Error> {
+    fs::remove_file(rt, path_text(name)?)
+}
+
+fn write_synced<F: Write + OpenFile>(file: &mut F, bytes: &[u8]) -> Result<(), Error> {
+    file.write_all(bytes)?;
+    file.sync_all()
+}
+
 // Writes a file to its end and to its device; says so and takes the file away where that fails.
-fn write_whole(name: &[u8], bytes: &[u8]) -> bool {
-    let fd = os::open_overwrite(name);
-    if fd < 0 {
-        os::fail(name);
-        return false;
-    }
-    if io::write_all(fd, bytes) {
-        if libc::fsync(fd) == 0 {
-            if libc::close(fd) == 0 {
-                return true;
+fn write_whole(rt: &impl Host, name: &[u8], bytes: &[u8]) -> bool {
+    match open_overwrite(rt, name) {
+        Ok(mut file) => match write_synced(&mut file, bytes) {
+            Ok(()) => true,
+            Err(error) => {
+                fail(rt, name, &error);
+                let _ = unlink(rt, name);
+                false
             }
+        },
+        Err(error) => {
+            fail(rt, name, &error);
+            false
         }
     }
-    os::fail(name);
-    libc::close(fd);
-    os::unlink(name);
-    false
 }
 
 // Writes a file under another name first, and then gives it its own; says so where that fails.
-fn replace(beside: &[u8], name: &[u8], bytes: &[u8]) -> bool {
-    if write_whole(beside, bytes) {
-        if os::rename(beside, name) == 0 {
-            return true;
+fn replace(rt: &impl Host, beside: &[u8], name: &[u8], bytes: &[u8]) -> bool {
+    if write_whole(rt, beside, bytes) {
+        match rename(rt, beside, name) {
+            Ok(()) => return true,
+            Err(error) => {
+                fail(rt, name, &error);
+                let _ = unlink(rt, beside);
+            }
         }
-        os::fail(name);
-        os::unlink(beside);
     }
     complain(
+        rt,
         name,
         b"not written, and left as it was; see to it that the file with .new behind its name can be written",
     );
@@ -237,45 +260,48 @@ fn replace(beside: &[u8], name: &[u8], bytes: &[u8]) -> bool {
 }
 
 // The same for a file whose name is the first n bytes of a path.
-fn save(path: &mut [u8], n: usize, bytes: &[u8]) -> bool
+fn save(rt: &impl Host, path: &mut [u8], n: usize, bytes: &[u8]) -> bool
     requires { n ≤ 4096 }
 {
     put_part(path, n, b".new");
-    replace(part(path, 0, n + 4), part(path, 0, n), bytes)
+    replace(rt, part(path, 0, n + 4), part(path, 0, n), bytes)
 }
 
-fn is_free(name: &[u8]) -> bool {
-    let fd = os::open_read(name);
-    if fd < 0 {
-        return os::errno() == libc::ENOENT;
+fn is_free(rt: &impl Host, name: &[u8]) -> bool {
+    match open_read(rt, name) {
+        Ok(_) => false,
+        Err(error) => error.kind() == ErrorKind::NotFound,
     }
-    libc::close(fd);
-    false
 }
 
-fn no_drawer(name: &[u8]) {
-    complain(name, b"there is no drawer of that name; make one first");
+fn no_drawer(rt: &impl Host, name: &[u8]) {
+    complain(rt, name, b"there is no drawer of that name; make one first");
 }
 
-fn no_source(name: &[u8]) {
-    complain(name, b"there is no file of that name");
+fn no_source(rt: &impl Host, name: &[u8]) {
+    complain(rt, name, b"there is no file of that name");
 }
 
-fn not_read(name: &[u8]) {
-    complain(name, b"not read; name a file that can be read");
+fn not_read(rt: &impl Host, name: &[u8]) {
+    complain(rt, name, b"not read; name a file that can be read");
 }
 
 // ---- The commands. A drawer's name is the first n bytes of a path.
 
-fn make_new(path: &mut [u8], n: usize, drawer: &mut [u8])
+fn make_new(rt: &impl Host, path: &mut [u8], n: usize, drawer: &mut [u8])
     requires { n ≤ 4096 }
 {
-    let size = number_asked(b"SIZE", b"give the drawer's length as a number of bytes");
+    let size = number_asked(
+        rt,
+        b"SIZE",
+        b"give the drawer's length as a number of bytes",
+    );
     if size == NO_NUMBER {
         return;
     }
-    if !is_free(part(path, 0, n)) {
+    if !is_free(rt, part(path, 0, n)) {
         complain(
+            rt,
             part(path, 0, n),
             b"in the way; name a file that is not there yet",
         );
@@ -284,54 +310,62 @@ fn make_new(path: &mut [u8], n: usize, drawer: &mut [u8])
     put_word(drawer, 0, 20);
     let refusal = drawer_fault(part(drawer, 0, size));
     if refusal != 0 {
-        refuse(part(path, 0, n), refusal);
+        refuse(rt, part(path, 0, n), refusal);
         return;
     }
-    if save(path, n, part(drawer, 0, size)) {
-        print_list(part(drawer, 0, size));
+    if save(rt, path, n, part(drawer, 0, size)) {
+        print_list(rt, part(drawer, 0, size));
     }
 }
 
-fn change(path: &mut [u8], n: usize, d: &mut [u8], k: usize, present: bool, new: &[u8])
+fn change(
+    rt: &impl Host,
+    path: &mut [u8],
+    n: usize,
+    d: &mut [u8],
+    k: usize,
+    present: bool,
+    new: &[u8],
+)
     requires { n ≤ 4096 }
 {
     let refusal = change_drawer(d, k, present, new);
     if refusal != 0 {
-        refuse(part(path, 0, n), refusal);
+        refuse(rt, part(path, 0, n), refusal);
         return;
     }
-    if save(path, n, d) {
-        print_change(d, k);
+    if save(rt, path, n, d) {
+        print_change(rt, d, k);
     }
 }
 
-fn put(path: &mut [u8], n: usize, d: &mut [u8], new: &mut [u8])
+fn put(rt: &impl Host, path: &mut [u8], n: usize, d: &mut [u8], new: &mut [u8])
     requires { n ≤ 4096 }
 {
     let mut name = [0u8; 4096];
-    let m = argument(4, &mut name);
+    let m = argument(rt, 4, &mut name);
     if m == 0 {
         return;
     }
-    let k = file_asked();
+    let k = file_asked(rt);
     if k == NO_NUMBER {
         return;
     }
-    match read_named(part(&name, 0, m), new) {
-        Found::Bytes { n: size } => change(path, n, d, k, true, part(new, 0, size)),
-        Found::Nothing => no_source(part(&name, 0, m)),
-        Found::Failed => not_read(part(&name, 0, m)),
+    match read_named(rt, part(&name, 0, m), new) {
+        Found::Bytes { n: size } => change(rt, path, n, d, k, true, part(new, 0, size)),
+        Found::Nothing => no_source(rt, part(&name, 0, m)),
+        Found::Failed => not_read(rt, part(&name, 0, m)),
     }
 }
 
-fn withdraw(path: &mut [u8], n: usize, d: &mut [u8], new: &mut [u8])
+fn withdraw(rt: &impl Host, path: &mut [u8], n: usize, d: &mut [u8], new: &mut [u8])
     requires { n ≤ 4096 }
 {
-    let k = file_asked();
+    let k = file_asked(rt);
     if k == NO_NUMBER {
         return;
     }
-    change(path, n, d, k, false, part(new, 0, 0));
+    change(rt, path, n, d, k, false, part(new, 0, 0));
 }
 
 // Whether the refusal of a bundle that is put in speaks of the drawer, and not of the bundle.
@@ -345,72 +379,79 @@ fn is_drawers(refusal: u32, size: usize) -> bool {
     size < 164
 }
 
-fn fill_with(path: &mut [u8], n: usize, d: &mut [u8], name: &[u8], bundle: &[u8])
+fn fill_with(rt: &impl Host, path: &mut [u8], n: usize, d: &mut [u8], name: &[u8], bundle: &[u8])
     requires { n ≤ 4096 }
 {
     let refusal = put_bundle(d, bundle);
     if refusal == 0 {
-        if save(path, n, d) {
-            print_list(d);
+        if save(rt, path, n, d) {
+            print_list(rt, d);
         }
         return;
     }
     if is_drawers(refusal, d.len()) {
-        refuse(part(path, 0, n), refusal);
+        refuse(rt, part(path, 0, n), refusal);
         return;
     }
-    refuse(name, refusal);
+    refuse(rt, name, refusal);
 }
 
-fn fill(path: &mut [u8], n: usize, d: &mut [u8], bundle: &mut [u8])
+fn fill(rt: &impl Host, path: &mut [u8], n: usize, d: &mut [u8], bundle: &mut [u8])
     requires { n ≤ 4096 }
 {
     let mut name = [0u8; 4096];
-    let m = argument(3, &mut name);
+    let m = argument(rt, 3, &mut name);
     if m == 0 {
         return;
     }
-    match read_named(part(&name, 0, m), bundle) {
+    match read_named(rt, part(&name, 0, m), bundle) {
         Found::Bytes { n: size } => {
-            fill_with(path, n, d, part(&name, 0, m), part(bundle, 0, size))
+            fill_with(rt, path, n, d, part(&name, 0, m), part(bundle, 0, size))
         }
-        Found::Nothing => no_source(part(&name, 0, m)),
-        Found::Failed => not_read(part(&name, 0, m)),
+        Found::Nothing => no_source(rt, part(&name, 0, m)),
+        Found::Failed => not_read(rt, part(&name, 0, m)),
     }
 }
 
-fn take(path: &[u8], n: usize, d: &[u8], bundle: &mut [u8]) {
+fn take(rt: &impl Host, path: &[u8], n: usize, d: &[u8], bundle: &mut [u8]) {
     let mut name = [0u8; 4096];
-    let m = argument(3, &mut name);
+    let m = argument(rt, 3, &mut name);
     if m == 0 {
         return;
     }
     let made = take_bundle(d, bundle);
     if made.refusal != 0 {
-        refuse(part(path, 0, n), made.refusal);
+        refuse(rt, part(path, 0, n), made.refusal);
         return;
     }
-    if save(&mut name, m, part(bundle, 0, made.length)) {
-        print(part(&name, 0, m));
-        print(b": ");
-        io::print_decimal(STDOUT_FILENO, made.length as u64);
-        print(b" bytes\n");
+    if save(rt, &mut name, m, part(bundle, 0, made.length)) {
+        print(rt, part(&name, 0, m));
+        print(rt, b": ");
+        write_decimal(rt, made.length as u64);
+        print(rt, b" bytes\n");
     }
 }
 
-fn list(path: &[u8], n: usize, d: &[u8]) {
+fn list(rt: &impl Host, path: &[u8], n: usize, d: &[u8]) {
     let refusal = drawer_fault(d);
     if refusal != 0 {
-        refuse(part(path, 0, n), refusal);
+        refuse(rt, part(path, 0, n), refusal);
         return;
     }
-    print_list(d);
+    print_list(rt, d);
 }
 
-fn judge_in(name: &[u8], d: &[u8], bundle: &mut [u8], work: &mut [u32], text: &mut [u8]) {
+fn judge_in(
+    rt: &impl Host,
+    name: &[u8],
+    d: &[u8],
+    bundle: &mut [u8],
+    work: &mut [u32],
+    text: &mut [u8],
+) {
     let made = take_bundle(d, bundle);
     if made.refusal != 0 {
-        refuse(name, made.refusal);
+        refuse(rt, name, made.refusal);
         return;
     }
     let n = reasons(
@@ -420,44 +461,51 @@ fn judge_in(name: &[u8], d: &[u8], bundle: &mut [u8], work: &mut [u32], text: &m
         work,
         text,
     );
-    print(part(text, 0, n));
+    print(rt, part(text, 0, n));
 }
 
-fn judge(name: &[u8], d: &[u8], bundle: &mut [u8]) {
+fn judge(rt: &impl Host, name: &[u8], d: &[u8], bundle: &mut [u8]) {
     let mut work = [0u32; 794702];
     let mut text = [0u8; 65536];
-    judge_in(name, d, bundle, &mut work, &mut text);
+    judge_in(rt, name, d, bundle, &mut work, &mut text);
 }
 
-fn marks_in(name: &[u8], d: &[u8], work: &mut [u32]) {
+fn marks_in(rt: &impl Host, name: &[u8], d: &[u8], work: &mut [u32]) {
     let mut text = [0u8; 6144];
     let drawn = drawer_judge_in(d, work);
     if drawn.refusal != 0 {
-        refuse(name, drawn.refusal);
+        refuse(rt, name, drawn.refusal);
         return;
     }
     let board = drawn.board;
     let n = report_board(0, board, &mut text);
-    print(part(&text, 0, n));
+    print(rt, part(&text, 0, n));
 }
 
-fn marks(name: &[u8], d: &[u8]) {
+fn marks(rt: &impl Host, name: &[u8], d: &[u8]) {
     let mut work = [0u32; 794702];
-    marks_in(name, d, &mut work);
+    marks_in(rt, name, d, &mut work);
 }
 
 // Does what is asked of a drawer that was read, with memory for other bytes.
-fn answer(command: Command, path: &mut [u8], n: usize, d: &mut [u8], other: &mut [u8])
+fn answer(
+    rt: &impl Host,
+    command: Command,
+    path: &mut [u8],
+    n: usize,
+    d: &mut [u8],
+    other: &mut [u8],
+)
     requires { n ≤ 4096 }
 {
     match command {
-        Command::Put => put(path, n, d, other),
-        Command::Withdraw => withdraw(path, n, d, other),
-        Command::Fill => fill(path, n, d, other),
-        Command::Take => take(path, n, d, other),
-        Command::List => list(path, n, d),
-        Command::Judge => judge(part(path, 0, n), d, other),
-        Command::Marks => marks(part(path, 0, n), d),
+        Command::Put => put(rt, path, n, d, other),
+        Command::Withdraw => withdraw(rt, path, n, d, other),
+        Command::Fill => fill(rt, path, n, d, other),
+        Command::Take => take(rt, path, n, d, other),
+        Command::List => list(rt, path, n, d),
+        Command::Judge => judge(rt, part(path, 0, n), d, other),
+        Command::Marks => marks(rt, part(path, 0, n), d),
         Command::New => {}
         Command::Unknown => {}
     }
@@ -465,6 +513,7 @@ fn answer(command: Command, path: &mut [u8], n: usize, d: &mut [u8], other: &mut
 
 // The same of the drawer at the front of a buffer, which is as long.
 fn answer_front(
+    rt: &impl Host,
     command: Command,
     path: &mut [u8],
     n: usize,
@@ -477,49 +526,57 @@ fn answer_front(
     if drawer.len() < size {
         return;
     }
-    answer(command, path, n, &mut drawer[..size], other);
+    answer(rt, command, path, n, &mut drawer[..size], other);
 }
 
-fn answer_file(command: Command, path: &mut [u8], n: usize, drawer: &mut [u8], other: &mut [u8])
+fn answer_file(
+    rt: &impl Host,
+    command: Command,
+    path: &mut [u8],
+    n: usize,
+    drawer: &mut [u8],
+    other: &mut [u8],
+)
     requires { n ≤ 4096 }
 {
-    match read_named(part(path, 0, n), drawer) {
-        Found::Bytes { n: size } => answer_front(command, path, n, drawer, size, other),
-        Found::Nothing => no_drawer(part(path, 0, n)),
-        Found::Failed => not_read(part(path, 0, n)),
+    match read_named(rt, part(path, 0, n), drawer) {
+        Found::Bytes { n: size } => answer_front(rt, command, path, n, drawer, size, other),
+        Found::Nothing => no_drawer(rt, part(path, 0, n)),
+        Found::Failed => not_read(rt, part(path, 0, n)),
     }
 }
 
-fn answer_named(command: Command, drawer: &mut [u8], other: &mut [u8]) {
+fn answer_named(rt: &impl Host, command: Command, drawer: &mut [u8], other: &mut [u8]) {
     let mut path = [0u8; 4096];
-    let n = argument(2, &mut path);
+    let n = argument(rt, 2, &mut path);
     if n == 0 {
         return;
     }
     match command {
-        Command::New => make_new(&mut path, n, drawer),
-        _ => answer_file(command, &mut path, n, drawer, other),
+        Command::New => make_new(rt, &mut path, n, drawer),
+        _ => answer_file(rt, command, &mut path, n, drawer, other),
     }
 }
 
-fn usage() {
+fn usage(rt: &impl Host) {
     complain(
+        rt,
         b"usage",
         b"keep_drawer new FILE SIZE | put FILE NUMBER SOURCE | withdraw FILE NUMBER | fill FILE BUNDLE | take FILE BUNDLE | list FILE | judge FILE | marks FILE",
     );
 }
 
 // With memory of its own.
-fn answer_asked(command: Command) {
+fn answer_asked(rt: &impl Host, command: Command) {
     let mut drawer = [0u8; 1048577];
     let mut other = [0u8; 1048577];
-    answer_named(command, &mut drawer, &mut other);
+    answer_named(rt, command, &mut drawer, &mut other);
 }
 
-fn main() {
-    let command = what_is_asked();
+fn main(rt: HostRuntime) {
+    let command = what_is_asked(&rt);
     match command {
-        Command::Unknown => usage(),
-        _ => answer_asked(command),
+        Command::Unknown => usage(&rt),
+        _ => answer_asked(&rt, command),
     }
 }

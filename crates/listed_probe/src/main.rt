@@ -14,10 +14,9 @@ use bundle_bytes::{put_word, word_at};
 use cases::{fill_front, get_marks, low, put_marks, write_part};
 use gate_flat::Listed;
 use gate_plain::judge_plain;
-use libc::STDIN_FILENO;
 use listed_numbers::{judge_numbers, make_numbers, try_numbers};
 use parts::part;
-use program_io::fill;
+use program_io::{Host, fill};
 
 // A board of 81 marks takes so many bytes.
 const BOARD: usize = 972;
@@ -47,16 +46,17 @@ fn put_list(bytes: &mut [u8], list: &[u32])
 }
 
 // Writes a list of up to 8,192 entries, by way of a buffer.
-fn write_list(bytes: &mut [u8], list: &[u32]) -> bool {
+fn write_list(rt: &impl Host, bytes: &mut [u8], list: &[u32]) -> bool {
     if 32768 < list.len() {
         return false;
     }
     put_list(bytes, list);
-    write_part(part(bytes, 0, 4 * list.len()))
+    write_part(rt, part(bytes, 0, 4 * list.len()))
 }
 
 // Writes what every call answers, by way of a buffer.
 fn write_answer(
+    rt: &impl Host,
     told: Listed,
     bytes: &mut [u8],
     kinds: &[u32],
@@ -67,12 +67,12 @@ fn write_answer(
     put_word(bytes, 0, told.refusal);
     put_word(bytes, 4, low(told.length));
     put_word(bytes, 8, low(told.entries));
-    write_part(part(bytes, 0, 12 + BOARD))
+    write_part(rt, part(bytes, 0, 12 + BOARD))
 }
 
 // ---- The calls
 
-fn plain(bundle: &[u8]) -> bool {
+fn plain(rt: &impl Host, bundle: &[u8]) -> bool {
     let mut bytes = [0u8; 984];
     let verdict = judge_plain(bundle);
     let told = Listed {
@@ -84,7 +84,7 @@ fn plain(bundle: &[u8]) -> bool {
     let kinds = board.kinds;
     let places = board.places;
     let companions = board.companions;
-    write_answer(told, &mut bytes, &kinds, &places, &companions)
+    write_answer(rt, told, &mut bytes, &kinds, &places, &companions)
 }
 
 fn call<'a>(
@@ -130,6 +130,7 @@ fn call<'a>(
 
 // A call with all of an output and of a list, and its answer.
 fn answer_call<'a>(
+    rt: &impl Host,
     asked: Asked,
     bundle: &'a [u8],
     new: &'a [u8],
@@ -154,17 +155,18 @@ fn answer_call<'a>(
         &mut companions,
         list,
     );
-    if !write_answer(told, bytes, &kinds, &places, &companions) {
+    if !write_answer(rt, told, bytes, &kinds, &places, &companions) {
         return false;
     }
-    if !write_part(out) {
+    if !write_part(rt, out) {
         return false;
     }
-    write_list(bytes, list)
+    write_list(rt, bytes, list)
 }
 
 // The same with the fronts of both, where they are long enough.
 fn answer_fronts<'a>(
+    rt: &impl Host,
     asked: Asked,
     bundle: &'a [u8],
     new: &'a [u8],
@@ -183,6 +185,7 @@ fn answer_fronts<'a>(
         return false;
     }
     answer_call(
+        rt,
         asked,
         bundle,
         new,
@@ -196,6 +199,7 @@ fn answer_fronts<'a>(
 
 // Reads the new bytes first.
 fn answer_new(
+    rt: &impl Host,
     asked: Asked,
     bundle: &[u8],
     board: &[u8],
@@ -206,16 +210,16 @@ fn answer_new(
     bytes: &mut [u8],
 ) -> bool {
     let n = asked.new_length;
-    if !fill_front(news, n) {
+    if !fill_front(rt, news, n) {
         return false;
     }
     let new = part(news, 0, n);
-    answer_fronts(asked, bundle, new, board, out, work, list, bytes)
+    answer_fronts(rt, asked, bundle, new, board, out, work, list, bytes)
 }
 
 // A call with a list, in a workspace with numbers in it that no file leaves there. What it owns is given back
 // before the plain engine makes its own lists: all together are more than a stack of 8 MB.
-fn answer_listed(asked: Asked, bundle: &[u8], board: &[u8]) -> bool {
+fn answer_listed(rt: &impl Host, asked: Asked, bundle: &[u8], board: &[u8]) -> bool {
     // too long by one, with a bundle of 20 omitted files
     let mut news = [0u8; 1048413];
     let mut out = [0xA5u8; 20000];
@@ -223,7 +227,7 @@ fn answer_listed(asked: Asked, bundle: &[u8], board: &[u8]) -> bool {
     let mut list = [0xA5A5A5A5u32; 32768];
     let mut bytes = [0u8; 131072];
     answer_new(
-        asked, bundle, board, &mut news, &mut out, &mut work, &mut list, &mut bytes,
+        rt, asked, bundle, board, &mut news, &mut out, &mut work, &mut list, &mut bytes,
     )
 }
 
@@ -241,36 +245,36 @@ fn asked_of(head: &[u8]) -> Asked {
 }
 
 // Answers the next case; whether to go on.
-fn answer(buf: &mut [u8]) -> bool {
+fn answer(rt: &impl Host, buf: &mut [u8]) -> bool {
     let mut head = [0u8; 28];
-    if !fill(STDIN_FILENO, &mut head) {
+    if !fill(&mut rt.input(), &mut head) {
         return false;
     }
     let n = word_at(&head, 4) as usize;
-    if !fill_front(buf, n + BOARD) {
+    if !fill_front(rt, buf, n + BOARD) {
         return false;
     }
     let bundle = part(buf, 0, n);
     let asked = asked_of(&head);
     if asked.op == 3 {
-        return plain(bundle);
+        return plain(rt, bundle);
     }
     if 3 < asked.op {
         return false;
     }
-    answer_listed(asked, bundle, part(buf, n, n + BOARD))
+    answer_listed(rt, asked, bundle, part(buf, n, n + BOARD))
 }
 
 // A proved loop has to end, and nothing says that the input does. So the loop counts its turns down, from
 // a number that no run uses up.
-fn answer_all(buf: &mut [u8]) {
+fn answer_all(rt: &impl Host, buf: &mut [u8]) {
     let mut turns = u64::MAX;
-    while turns > 0 && answer(buf) {
+    while turns > 0 && answer(rt, buf) {
         turns -= 1;
     }
 }
 
-fn main() {
+fn main(rt: HostRuntime) {
     let mut buf = [0u8; 240972];
-    answer_all(&mut buf);
+    answer_all(&rt, &mut buf);
 }

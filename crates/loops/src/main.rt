@@ -4,11 +4,9 @@
 
 ghost use Rattle.loops.specs.Printed.{PrintsLoop};
 
-use check::same;
-use libc::STDIN_FILENO;
 use loop_text::tell_loop;
 use parts::part;
-use program_io::{Input, complain, print, read_all};
+use program_io::{Host, Input, argument_count, argument_in, complain, fail, print, read_all};
 use report::put_counted;
 
 // Puts the text of a bundle at the front of an output, as far as there is room, and answers how much
@@ -25,43 +23,44 @@ fn put_told(bundle: &[u8], explained: bool, out: &mut [u8]) -> usize
 }
 
 // Looks through standard input, with memory for the bundle and a byte more, and for the text.
-fn answer(explained: bool, bundle: &mut [u8], text: &mut [u8]) {
-    match read_all(STDIN_FILENO, bundle) {
+fn answer(rt: &impl Host, explained: bool, bundle: &mut [u8], text: &mut [u8]) {
+    match read_all(&mut rt.input(), bundle) {
         Input::Whole { n } => {
             let length = put_told(part(bundle, 0, n), explained, text);
-            print(part(text, 0, length));
+            print(rt, part(text, 0, length));
         }
-        Input::Failed => os::fail(b"standard input"),
+        Input::Failed { error } => fail(rt, b"standard input", &error),
     }
 }
 
 // The same with memory of its own. The text has at most 4,096 lines of at most 303 bytes, and the numbers.
-fn answer_with_memory(explained: bool) {
+fn answer_with_memory(rt: &impl Host, explained: bool) {
     let mut bundle = [0u8; 65537];
     let mut text = [0u8; 1280000];
-    answer(explained, &mut bundle, &mut text);
+    answer(rt, explained, &mut bundle, &mut text);
 }
 
 // Whether the first argument asks for an explanation.
-fn is_explain() -> bool {
+fn is_explain(rt: &impl Host) -> bool {
     let mut word = [0u8; 16];
-    let n = os::arg(1, &mut word);
-    same(part(&word, 0, n), b"--explain")
+    let n = argument_in(rt, 1, &mut word);
+    part(&word, 0, n) == b"--explain".as_slice()
 }
 
-fn main() {
-    let count = os::arg_count();
+fn main(rt: HostRuntime) {
+    let count = argument_count(&rt);
     if count <= 1 {
-        answer_with_memory(false);
+        answer_with_memory(&rt, false);
         return;
     }
     if count == 2 {
-        if is_explain() {
-            answer_with_memory(true);
+        if is_explain(&rt) {
+            answer_with_memory(&rt, true);
             return;
         }
     }
     complain(
+        &rt,
         b"usage",
         b"loops [--explain], with a bundle on standard input",
     );

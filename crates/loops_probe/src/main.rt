@@ -10,10 +10,9 @@
 
 use bundle_bytes::{put_word, word_at};
 use cases::{fill_front, low};
-use libc::{STDIN_FILENO, STDOUT_FILENO};
 use loop_text::tell_loop;
 use parts::part;
-use program_io::fill;
+use program_io::{Host, fill, write_out};
 use show_loop::{Shown, show_loop_in};
 
 fn pattern(seed: u32, i: usize) -> u32 {
@@ -57,14 +56,15 @@ fn put_list(out: &mut [u8], list: &[u32]) {
     }
 }
 
-fn write_shown(shown: Shown, list: &[u32], out: &mut [u8]) -> bool {
+fn write_shown(rt: &impl Host, shown: Shown, list: &[u32], out: &mut [u8]) -> bool {
     put_word(out, 0, tag_of(shown));
     put_word(out, 4, number_of(shown));
     put_list(out, list);
-    io::write_all(STDOUT_FILENO, out)
+    write_out(rt, out)
 }
 
 fn answer_case(
+    rt: &impl Host,
     bundle: &[u8],
     seed: u32,
     list: &mut [u32],
@@ -73,21 +73,22 @@ fn answer_case(
 ) -> bool {
     lay(list, seed);
     let shown = show_loop_in(bundle, work, list);
-    write_shown(shown, list, out)
+    write_shown(rt, shown, list, out)
 }
 
 // A text behind its length.
-fn write_text(text: &[u8]) -> bool {
+fn write_text(rt: &impl Host, text: &[u8]) -> bool {
     let mut head = [0u8; 4];
     put_word(&mut head, 0, low(text.len()));
-    if io::write_all(STDOUT_FILENO, &head) {
-        return io::write_all(STDOUT_FILENO, text);
+    if write_out(rt, &head) {
+        return write_out(rt, text);
     }
     false
 }
 
 // Answers a case with a list of m numbers, where that is not too long.
 fn answer_list(
+    rt: &impl Host,
     bundle: &[u8],
     seed: u32,
     m: usize,
@@ -105,11 +106,12 @@ fn answer_list(
     if out.len() < size {
         return false;
     }
-    answer_case(bundle, seed, &mut list[..m], work, &mut out[..size])
+    answer_case(rt, bundle, seed, &mut list[..m], work, &mut out[..size])
 }
 
 // The same with the text.
 fn answer_text(
+    rt: &impl Host,
     bundle: &[u8],
     explained: bool,
     m: usize,
@@ -121,40 +123,46 @@ fn answer_text(
         return false;
     }
     let n = tell_loop(bundle, explained, work, &mut list[..m], out);
-    write_text(part(out, 0, n))
+    write_text(rt, part(out, 0, n))
 }
 
 // Answers the next case; whether to go on.
-fn answer(buf: &mut [u8], list: &mut [u32], work: &mut [u32], out: &mut [u8]) -> bool {
+fn answer(
+    rt: &impl Host,
+    buf: &mut [u8],
+    list: &mut [u32],
+    work: &mut [u32],
+    out: &mut [u8],
+) -> bool {
     let mut head = [0u8; 16];
-    if !fill(STDIN_FILENO, &mut head) {
+    if !fill(&mut rt.input(), &mut head) {
         return false;
     }
     let n = word_at(&head, 0) as usize;
-    if !fill_front(buf, n) {
+    if !fill_front(rt, buf, n) {
         return false;
     }
     let m = word_at(&head, 4) as usize;
     let asked = word_at(&head, 12);
     if asked == 0 {
-        return answer_list(part(buf, 0, n), word_at(&head, 8), m, list, work, out);
+        return answer_list(rt, part(buf, 0, n), word_at(&head, 8), m, list, work, out);
     }
-    answer_text(part(buf, 0, n), asked != 1, m, list, work, out)
+    answer_text(rt, part(buf, 0, n), asked != 1, m, list, work, out)
 }
 
 // A proved loop has to end, and nothing says that the input does. So the loop counts its turns
 // down, from a number that no run uses up.
-fn answer_all(buf: &mut [u8], list: &mut [u32], work: &mut [u32], out: &mut [u8]) {
+fn answer_all(rt: &impl Host, buf: &mut [u8], list: &mut [u32], work: &mut [u32], out: &mut [u8]) {
     let mut turns = u64::MAX;
-    while turns > 0 && answer(buf, list, work, out) {
+    while turns > 0 && answer(rt, buf, list, work, out) {
         turns -= 1;
     }
 }
 
-fn main() {
+fn main(rt: HostRuntime) {
     let mut buf = [0u8; 1048577];
     let mut list = [0u32; 5000];
     let mut work = [0xA5A5A5A5u32; 40960];
     let mut out = [0u8; 1280000];
-    answer_all(&mut buf, &mut list, &mut work, &mut out);
+    answer_all(&rt, &mut buf, &mut list, &mut work, &mut out);
 }

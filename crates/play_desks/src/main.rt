@@ -15,7 +15,6 @@ ghost use Rattle.std.specs.Prelude.{◌≤◌};
 use board::{Board, is_accepted, report_board};
 use bundle::make_bundle;
 use bundle_bytes::put_part;
-use check::same;
 use desk_refusals::join_fault;
 use desks::{Desk, Desks, judge_joined, try_desks};
 use desks_calls::Whose;
@@ -23,9 +22,8 @@ use file_names::put_file_name;
 use folder::{Found, argument, gather, read_named};
 use gate_lists::Which;
 use join_bundle::join_bundle;
-use libc::STDOUT_FILENO;
 use parts::part;
-use program_io::{complain, print};
+use program_io::{Host, argument_count, argument_in, complain, print, write_decimal};
 use reason_text::reasons;
 
 // What is at hand between two changes, beside the bundles, which stand in buffers: how long they are, the
@@ -42,27 +40,27 @@ struct Hand {
 
 // ---- The arguments
 
-fn argument_is(i: usize, text: &[u8]) -> bool {
+fn argument_is(rt: &impl Host, i: usize, text: &[u8]) -> bool {
     let mut word = [0u8; 16];
-    let n = os::arg(i, &mut word);
-    same(part(&word, 0, n), text)
+    let n = argument_in(rt, i, &mut word);
+    part(&word, 0, n) == text
 }
 
 // The number of the argument that names desk A's folder.
-fn first_folder() -> usize
+fn first_folder(rt: &impl Host) -> usize
     ensures { result ≤ 2 }
 {
-    if argument_is(1, b"--marks") {
+    if argument_is(rt, 1, b"--marks") {
         return 2;
     }
     1
 }
 
 // How many groups of three arguments there are from that number on; 0 where some are left over.
-fn groups_from(first: usize) -> usize
+fn groups_from(rt: &impl Host, first: usize) -> usize
     ensures { result ≤ 1000000 }
 {
-    let count = os::arg_count();
+    let count = argument_count(rt);
     if count < first {
         return 0;
     }
@@ -85,17 +83,18 @@ fn whose_of(number: usize) -> Whose {
 }
 
 // Whose the change is: 0 for A's, 1 for B's, 2 for the calendars, and 3, which it says, for none.
-fn whose_at(i: usize) -> usize {
-    if argument_is(i, b"A") {
+fn whose_at(rt: &impl Host, i: usize) -> usize {
+    if argument_is(rt, i, b"A") {
         return 0;
     }
-    if argument_is(i, b"B") {
+    if argument_is(rt, i, b"B") {
         return 1;
     }
-    if argument_is(i, b"calendars") {
+    if argument_is(rt, i, b"calendars") {
         return 2;
     }
     complain(
+        rt,
         b"a change",
         b"it is to A, to B or to calendars; name one of these first",
     );
@@ -143,12 +142,12 @@ fn number_in(text: &[u8]) -> usize {
 }
 
 // The number of a file; 100, which it says, for none.
-fn file_at(i: usize) -> usize {
+fn file_at(rt: &impl Host, i: usize) -> usize {
     let mut word = [0u8; 16];
-    let n = os::arg(i, &mut word);
+    let n = argument_in(rt, i, &mut word);
     let file = number_in(part(&word, 0, n));
     if file == 100 {
-        complain(b"a change", b"name the file by its number, 0 to 19");
+        complain(rt, b"a change", b"name the file by its number, 0 to 19");
     }
     file
 }
@@ -162,19 +161,20 @@ enum New {
 }
 
 // Reads the file that an argument names, and says so where it can't.
-fn read_new(i: usize, news: &mut [u8]) -> New {
-    if argument_is(i, b"-") {
+fn read_new(rt: &impl Host, i: usize, news: &mut [u8]) -> New {
+    if argument_is(rt, i, b"-") {
         return New::Withdrawn;
     }
     let mut path = [0u8; 4096];
-    let n = argument(i, &mut path);
+    let n = argument(rt, i, &mut path);
     if n == 0 {
         return New::Unknown;
     }
-    match read_named(part(&path, 0, n), news) {
+    match read_named(rt, part(&path, 0, n), news) {
         Found::Bytes { n: size } => New::Bytes { n: size },
         Found::Nothing => {
             complain(
+                rt,
                 part(&path, 0, n),
                 b"not there; name a file that is, or - to withdraw the set's",
             );
@@ -186,83 +186,105 @@ fn read_new(i: usize, news: &mut [u8]) -> New {
 
 // Puts the bundle of the folder that an argument names to the front of a buffer, with two more to make it
 // in, and answers its length; 0, which it says, where there is none.
-fn gather_in(i: usize, file: &mut [u8], bundle: &mut [u8], other: &mut [u8]) -> usize {
+fn gather_in(
+    rt: &impl Host,
+    i: usize,
+    file: &mut [u8],
+    bundle: &mut [u8],
+    other: &mut [u8],
+) -> usize {
     let mut path = [0u8; 4096];
-    let folder = argument(i, &mut path);
+    let folder = argument(rt, i, &mut path);
     if folder == 0 {
         return 0;
     }
-    gather(Which::Schedule, &mut path, folder, file, bundle, other)
+    gather(rt, Which::Schedule, &mut path, folder, file, bundle, other)
 }
 
-fn gather_folder(i: usize, file: &mut [u8], bundle: &mut [u8]) -> usize {
+fn gather_folder(rt: &impl Host, i: usize, file: &mut [u8], bundle: &mut [u8]) -> usize {
     let mut other = [0u8; 1048577];
-    gather_in(i, file, bundle, &mut other)
+    gather_in(rt, i, file, bundle, &mut other)
 }
 
 // ---- What is printed
 
-fn print_number(before: &[u8], number: usize, behind: &[u8]) {
-    print(before);
-    io::print_decimal(STDOUT_FILENO, number as u64);
-    print(behind);
+fn print_number(rt: &impl Host, before: &[u8], number: usize, behind: &[u8]) {
+    print(rt, before);
+    write_decimal(rt, number as u64);
+    print(rt, behind);
 }
 
 // What a refusal means, and what to do. Folders are bundled right and the output is long enough, so these are
 // the refusals that there can be.
-fn print_refusal(refusal: u32, bundles: u32) {
-    print_number(b"refused as ", refusal as usize, b": ");
+fn print_refusal(rt: &impl Host, refusal: u32, bundles: u32) {
+    print_number(rt, b"refused as ", refusal as usize, b": ");
     if bundles == 9 {
         print(
+            rt,
             b"files 6, 7 and 8 stand in the folder of the calendars, and no other does; move what stands in the wrong one\n",
         );
         return;
     }
     match refusal {
-        4 => print(b"a set has files 0 to 19; name one of these\n"),
-        6 => print(b"the new bundle would be over 1,048,576 bytes; shorten the file\n"),
+        4 => print(rt, b"a set has files 0 to 19; name one of these\n"),
+        6 => print(
+            rt,
+            b"the new bundle would be over 1,048,576 bytes; shorten the file\n",
+        ),
         9 => print(
+            rt,
             b"a desk changes any file but 6, 7 and 8, and the calendars those alone; make the change there\n",
         ),
-        _ => print(b"see the table of refusals in the README\n"),
+        _ => print(rt, b"see the table of refusals in the README\n"),
     };
 }
 
-fn print_board(board: Board) {
+fn print_board(rt: &impl Host, board: Board) {
     let mut text = [0u8; 6144];
     let n = report_board(0, board, &mut text);
-    print(part(&text, 0, n));
+    print(rt, part(&text, 0, n));
 }
 
-fn print_reasons_in(bundle: &[u8], work: &mut [u32], text: &mut [u8]) {
+fn print_reasons_in(rt: &impl Host, bundle: &[u8], work: &mut [u32], text: &mut [u8]) {
     let n = reasons(Which::Schedule, bundle, true, work, text);
-    print(part(text, 0, n));
+    print(rt, part(text, 0, n));
 }
 
-fn print_reasons(bundle: &[u8]) {
+fn print_reasons(rt: &impl Host, bundle: &[u8]) {
     let mut work = [0u32; 794702];
     let mut text = [0u8; 65536];
-    print_reasons_in(bundle, &mut work, &mut text);
+    print_reasons_in(rt, bundle, &mut work, &mut text);
 }
 
 // Prints a desk's marks, its joined set put into a spare buffer.
-fn print_marks<'a>(plain: bool, desk: &'a [u8], shared: &'a [u8], board: Board, spare: &mut [u8]) {
+fn print_marks<'a>(
+    rt: &impl Host,
+    plain: bool,
+    desk: &'a [u8],
+    shared: &'a [u8],
+    board: Board,
+    spare: &mut [u8],
+) {
     if plain {
-        print_board(board);
+        print_board(rt, board);
         return;
     }
     let n = join_bundle(desk, shared, spare);
     if n == 0 {
-        print(b"the joined set is over 1,048,576 bytes, and its marks come without reasons\n");
-        print_board(board);
+        print(
+            rt,
+            b"the joined set is over 1,048,576 bytes, and its marks come without reasons\n",
+        );
+        print_board(rt, board);
         return;
     }
-    print_reasons(part(spare, 0, n));
+    print_reasons(rt, part(spare, 0, n));
 }
 
 // Prints what a desk is answered, and its marks as they then stand; a desk that is refused by its bundles has
 // none.
 fn print_desk<'a>(
+    rt: &impl Host,
     plain: bool,
     name: &[u8],
     desk: &'a [u8],
@@ -271,20 +293,21 @@ fn print_desk<'a>(
     board: Board,
     spare: &mut [u8],
 ) {
-    print(name);
+    print(rt, name);
     let bundles = join_fault(desk, shared);
     if refusal != 0 {
-        print_refusal(refusal, bundles);
+        print_refusal(rt, refusal, bundles);
     }
     if bundles != 0 {
-        print(b"not judged\n");
+        print(rt, b"not judged\n");
         return;
     }
-    print_marks(plain, desk, shared, board, spare);
+    print_marks(rt, plain, desk, shared, board, spare);
 }
 
 // Prints both, by the refusals that they got.
 fn print_both<'a>(
+    rt: &impl Host,
     plain: bool,
     a: &'a [u8],
     b: &'a [u8],
@@ -296,54 +319,54 @@ fn print_both<'a>(
 ) {
     let board_a = hand.board_a;
     let board_b = hand.board_b;
-    print_desk(plain, b"desk A\n", a, shared, refusal_a, board_a, spare);
-    print_desk(plain, b"desk B\n", b, shared, refusal_b, board_b, spare);
+    print_desk(rt, plain, b"desk A\n", a, shared, refusal_a, board_a, spare);
+    print_desk(rt, plain, b"desk B\n", b, shared, refusal_b, board_b, spare);
 }
 
 // Prints the number of a file, and its name where there is such a file.
-fn print_file(file: usize) {
+fn print_file(rt: &impl Host, file: usize) {
     let mut name = [0u8; 36];
     let n = put_file_name(&mut name, 0, file);
-    print_number(b"file ", file, b" ");
+    print_number(rt, b"file ", file, b" ");
     if n != 0 {
-        print(part(&name, 0, n));
-        print(b" ");
+        print(rt, part(&name, 0, n));
+        print(rt, b" ");
     }
 }
 
 // Prints which change comes.
-fn print_change(turn: usize, whose: usize, file: usize, present: bool) {
-    print_number(b"\nchange ", turn, b": ");
+fn print_change(rt: &impl Host, turn: usize, whose: usize, file: usize, present: bool) {
+    print_number(rt, b"\nchange ", turn, b": ");
     match whose {
-        0 => print(b"desk A, "),
-        1 => print(b"desk B, "),
-        _ => print(b"calendars, "),
+        0 => print(rt, b"desk A, "),
+        1 => print(rt, b"desk B, "),
+        _ => print(rt, b"calendars, "),
     };
-    print_file(file);
+    print_file(rt, file);
     if present {
-        print(b"new\n");
+        print(rt, b"new\n");
     } else {
-        print(b"withdrawn\n");
+        print(rt, b"withdrawn\n");
     }
 }
 
-fn print_size(size: usize) {
+fn print_size(rt: &impl Host, size: usize) {
     if size == 0 {
-        print(b"not written\n");
+        print(rt, b"not written\n");
     } else {
-        print_number(b"written: ", size, b" bytes\n");
+        print_number(rt, b"written: ", size, b" bytes\n");
     }
 }
 
 // Prints how it ends; nothing where a change could not be made.
-fn print_end(hand: Hand) {
+fn print_end(rt: &impl Host, hand: Hand) {
     if !hand.going {
         return;
     }
     if are_accepted(hand) {
-        print(b"\nboth accepted\n");
+        print(rt, b"\nboth accepted\n");
     } else {
-        print(b"\nnot both accepted\n");
+        print(rt, b"\nnot both accepted\n");
     }
 }
 
@@ -509,6 +532,7 @@ fn answer<'a>(
 
 // Makes a change and prints what it gives; the new bytes are the first n of their buffer, which is spare then.
 fn change(
+    rt: &impl Host,
     plain: bool,
     turn: usize,
     a: &mut [u8],
@@ -521,7 +545,7 @@ fn change(
     present: bool,
     n: usize,
 ) -> Hand {
-    print_change(turn, whose, k, present);
+    print_change(rt, turn, whose, k, present);
     let desks = answer(
         part(a, 0, hand.length_a),
         part(b, 0, hand.length_b),
@@ -536,9 +560,10 @@ fn change(
     let of_b = desks.b;
     let refusal_a = of_a.refusal;
     let refusal_b = of_b.refusal;
-    print_size(desks.size);
+    print_size(rt, desks.size);
     let next = written(a, b, s, hand, whose, k, present, part(news, 0, n), desks);
     print_both(
+        rt,
         plain,
         part(a, 0, next.length_a),
         part(b, 0, next.length_b),
@@ -566,6 +591,7 @@ fn ended(hand: Hand) -> Hand {
 
 // Makes the change that three arguments name, unless one before it could not be made.
 fn step(
+    rt: &impl Host,
     plain: bool,
     turn: usize,
     i: usize,
@@ -580,17 +606,17 @@ fn step(
     if !hand.going {
         return ended(hand);
     }
-    let whose = whose_at(i);
-    let k = file_at(i + 1);
+    let whose = whose_at(rt, i);
+    let k = file_at(rt, i + 1);
     if whose == 3 {
         return ended(hand);
     }
     if k == 100 {
         return ended(hand);
     }
-    match read_new(i + 2, news) {
-        New::Bytes { n } => change(plain, turn, a, b, s, news, hand, whose, k, true, n),
-        New::Withdrawn => change(plain, turn, a, b, s, news, hand, whose, k, false, 0),
+    match read_new(rt, i + 2, news) {
+        New::Bytes { n } => change(rt, plain, turn, a, b, s, news, hand, whose, k, true, n),
+        New::Withdrawn => change(rt, plain, turn, a, b, s, news, hand, whose, k, false, 0),
         New::Unknown => ended(hand),
     }
 }
@@ -598,7 +624,14 @@ fn step(
 // ---- The play
 
 // Judges both desks in full and prints their marks.
-fn start<'a>(plain: bool, a: &'a [u8], b: &'a [u8], s: &'a [u8], spare: &mut [u8]) -> Hand {
+fn start<'a>(
+    rt: &impl Host,
+    plain: bool,
+    a: &'a [u8],
+    b: &'a [u8],
+    s: &'a [u8],
+    spare: &mut [u8],
+) -> Hand {
     let of_a = judge_joined(a, s);
     let of_b = judge_joined(b, s);
     let board_a = of_a.board;
@@ -611,13 +644,14 @@ fn start<'a>(plain: bool, a: &'a [u8], b: &'a [u8], s: &'a [u8], spare: &mut [u8
         board_b,
         going: true,
     };
-    print(b"start\n");
-    print_both(plain, a, b, s, of_a.refusal, of_b.refusal, hand, spare);
+    print(rt, b"start\n");
+    print_both(rt, plain, a, b, s, of_a.refusal, of_b.refusal, hand, spare);
     hand
 }
 
 // Makes the changes that the groups of arguments behind the folders name.
 fn play(
+    rt: &impl Host,
     plain: bool,
     first: usize,
     groups: usize,
@@ -632,7 +666,7 @@ fn play(
     let mut hand = begun;
     let mut turn = 1;
     while turn < groups {
-        hand = step(plain, turn, first + 3 * turn, a, b, s, news, hand);
+        hand = step(rt, plain, turn, first + 3 * turn, a, b, s, news, hand);
         turn += 1;
     }
     hand
@@ -647,18 +681,25 @@ struct Lengths {
 }
 
 // Bundles the folders from that argument on, as far as it can.
-fn gather_all(first: usize, a: &mut [u8], b: &mut [u8], s: &mut [u8], news: &mut [u8]) -> Lengths
+fn gather_all(
+    rt: &impl Host,
+    first: usize,
+    a: &mut [u8],
+    b: &mut [u8],
+    s: &mut [u8],
+    news: &mut [u8],
+) -> Lengths
     requires { first ≤ 2 }
 {
-    let na = gather_folder(first, news, a);
+    let na = gather_folder(rt, first, news, a);
     if na == 0 {
         return Lengths { a: 0, b: 0, s: 0 };
     }
-    let nb = gather_folder(first + 1, news, b);
+    let nb = gather_folder(rt, first + 1, news, b);
     if nb == 0 {
         return Lengths { a: 0, b: 0, s: 0 };
     }
-    let ns = gather_folder(first + 2, news, s);
+    let ns = gather_folder(rt, first + 2, news, s);
     Lengths {
         a: na,
         b: nb,
@@ -667,6 +708,7 @@ fn gather_all(first: usize, a: &mut [u8], b: &mut [u8], s: &mut [u8], news: &mut
 }
 
 fn begin<'a>(
+    rt: &impl Host,
     plain: bool,
     lengths: Lengths,
     a: &'a [u8],
@@ -675,6 +717,7 @@ fn begin<'a>(
     news: &mut [u8],
 ) -> Hand {
     start(
+        rt,
         plain,
         part(a, 0, lengths.a),
         part(b, 0, lengths.b),
@@ -685,6 +728,7 @@ fn begin<'a>(
 
 // Plays from the bundles of the folders on, and prints how it ends.
 fn play_to_end(
+    rt: &impl Host,
     plain: bool,
     first: usize,
     groups: usize,
@@ -696,12 +740,13 @@ fn play_to_end(
 )
     requires { (first ≤ 2) × (groups ≤ 1000000) }
 {
-    let hand = begin(plain, lengths, a, b, s, news);
-    print_end(play(plain, first, groups, a, b, s, news, hand));
+    let hand = begin(rt, plain, lengths, a, b, s, news);
+    print_end(rt, play(rt, plain, first, groups, a, b, s, news, hand));
 }
 
 // Plays with memory for the three bundles and for new bytes.
 fn play_all(
+    rt: &impl Host,
     plain: bool,
     first: usize,
     groups: usize,
@@ -712,32 +757,42 @@ fn play_all(
 )
     requires { (first ≤ 2) × (groups ≤ 1000000) }
 {
-    let lengths = gather_all(first, a, b, s, news);
+    let lengths = gather_all(rt, first, a, b, s, news);
     if lengths.s == 0 {
         return;
     }
-    play_to_end(plain, first, groups, lengths, a, b, s, news);
+    play_to_end(rt, plain, first, groups, lengths, a, b, s, news);
 }
 
-fn play_with_memory(first: usize, groups: usize)
+fn play_with_memory(rt: &impl Host, first: usize, groups: usize)
     requires { (first ≤ 2) × (groups ≤ 1000000) }
 {
     let mut a = [0u8; 1048577];
     let mut b = [0u8; 1048577];
     let mut s = [0u8; 1048577];
     let mut news = [0u8; 1048577];
-    play_all(first == 2, first, groups, &mut a, &mut b, &mut s, &mut news);
+    play_all(
+        rt,
+        first == 2,
+        first,
+        groups,
+        &mut a,
+        &mut b,
+        &mut s,
+        &mut news,
+    );
 }
 
-fn main() {
-    let first = first_folder();
-    let groups = groups_from(first);
+fn main(rt: HostRuntime) {
+    let first = first_folder(&rt);
+    let groups = groups_from(&rt, first);
     if groups == 0 {
         complain(
+            &rt,
             b"usage",
             b"play_desks [--marks] A B CALENDARS [WHOSE FILE NEW]..",
         );
         return;
     }
-    play_with_memory(first, groups);
+    play_with_memory(&rt, first, groups);
 }

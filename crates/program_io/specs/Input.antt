@@ -5,4 +5,4 @@ use Rattle.program_io.specs.declared.Input.TheVariants.{Whole, Failed}
 
 abbrev pub Within : Input → ℕ → Type 0
 Within (Whole n) most = n ≤ most
-Within Failed most = Unit {0}
+Within (Failed error) most = Unit {0}

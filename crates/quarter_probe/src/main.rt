@@ -12,10 +12,9 @@ ghost use Rattle.std.specs.Prelude.{◌≤◌, ◌<◌, ◌≡◌};
 use bundle_bytes::{put_word, word_at};
 use cases::{fill_front, low};
 use json_bytes::byte_at;
-use libc::{STDIN_FILENO, STDOUT_FILENO};
 use output::put_byte;
 use parts::part;
-use program_io::{fill, put_long};
+use program_io::{Host, fill, put_long, write_out};
 use quarter::{Quarter, Taken, left_out, take_in};
 use whole_size::{size_of, whole_in};
 
@@ -108,7 +107,7 @@ fn put_left(out: &mut [u8], left: &[bool]) {
     }
 }
 
-fn write_taken(taken: Taken) -> bool {
+fn write_taken(rt: &impl Host, taken: Taken) -> bool {
     let mut out = [0u8; 508];
     let quarter = taken.quarter;
     let totals = quarter.totals;
@@ -120,17 +119,17 @@ fn write_taken(taken: Taken) -> bool {
     put_left(&mut out, &left);
     put_signed(&mut out, 456, &grand, 6);
     put_word(&mut out, 504, low(left_out(quarter)));
-    io::write_all(STDOUT_FILENO, &out)
+    write_out(rt, &out)
 }
 
 // Answers one case; false where the input ends or the case is too long.
-fn answer(buf: &mut [u8], work: &mut [u32]) -> bool {
+fn answer(rt: &impl Host, buf: &mut [u8], work: &mut [u32]) -> bool {
     let mut head = [0u8; 456];
-    if !fill(STDIN_FILENO, &mut head) {
+    if !fill(&mut rt.input(), &mut head) {
         return false;
     }
     let n = word_at(&head, 452) as usize;
-    if !fill_front(buf, n) {
+    if !fill_front(rt, buf, n) {
         return false;
     }
     let quarter = Quarter {
@@ -138,21 +137,21 @@ fn answer(buf: &mut [u8], work: &mut [u32]) -> bool {
         sets: word_at(&head, 192) as usize,
         left: get_left(&head),
     };
-    write_taken(take_in(quarter, part(buf, 0, n), work))
+    write_taken(rt, take_in(quarter, part(buf, 0, n), work))
 }
 
-fn answer_all(buf: &mut [u8], work: &mut [u32]) {
+fn answer_all(rt: &impl Host, buf: &mut [u8], work: &mut [u32]) {
     let mut turns: u64 = 1000000000;
     while 0 < turns {
-        if !answer(buf, work) {
+        if !answer(rt, buf, work) {
             return;
         }
         turns -= 1;
     }
 }
 
-fn main() {
+fn main(rt: HostRuntime) {
     let mut buf = [0u8; 1048577];
     let mut work = [0xA5A5A5A5u32; 794702];
-    answer_all(&mut buf, &mut work);
+    answer_all(&rt, &mut buf, &mut work);
 }

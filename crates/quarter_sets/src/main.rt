@@ -7,16 +7,15 @@
 
 use board::faults_on;
 use bundle_bytes::put_part;
-use check::same;
 use folder::{Found, argument, gather, read_named};
 use gate::judge_in;
 use gate_lists::Which;
-use libc::{STDERR_FILENO, STDOUT_FILENO};
 use output::put_number;
 use parts::part;
-use program_io::{complain, print};
+use program_io::{Host, argument_count, argument_in, complain, open_read, print, say};
 use quarter::{Quarter, Taken, left_out, start, take_in};
 use quarter_text::{put_comma_text, put_table};
+use std::io::Print;
 
 // What was asked for: whether comma-separated values, whether progress, and the number of the first argument
 // that names a set.
@@ -27,16 +26,16 @@ struct Asked {
     first: usize,
 }
 
-fn is_word(i: usize, word: &[u8]) -> bool {
+fn is_word(rt: &impl Host, i: usize, word: &[u8]) -> bool {
     let mut bytes = [0u8; 16];
-    let n = os::arg(i, &mut bytes);
-    same(part(&bytes, 0, n), word)
+    let n = argument_in(rt, i, &mut bytes);
+    part(&bytes, 0, n) == word
 }
 
-fn what_is_asked() -> Asked {
-    let comma = is_word(1, b"--csv");
+fn what_is_asked(rt: &impl Host) -> Asked {
+    let comma = is_word(rt, 1, b"--csv");
     if comma {
-        if is_word(2, b"--progress") {
+        if is_word(rt, 2, b"--progress") {
             return Asked {
                 comma: true,
                 progress: true,
@@ -49,7 +48,7 @@ fn what_is_asked() -> Asked {
             first: 2,
         };
     }
-    if is_word(1, b"--progress") {
+    if is_word(rt, 1, b"--progress") {
         return Asked {
             comma: false,
             progress: true,
@@ -66,7 +65,7 @@ fn what_is_asked() -> Asked {
 // ---- A set's bytes
 
 // Whether the first n bytes of a path name a folder; its last two bytes are room for an ending.
-fn is_folder(path: &mut [u8], n: usize) -> bool {
+fn is_folder(rt: &impl Host, path: &mut [u8], n: usize) -> bool {
     if path.len() < 2 {
         return false;
     }
@@ -74,42 +73,42 @@ fn is_folder(path: &mut [u8], n: usize) -> bool {
         return false;
     }
     put_part(path, n, b"/.");
-    let fd = os::open_read(part(path, 0, n + 2));
-    if fd < 0 {
-        return false;
-    }
-    libc::close(fd);
-    true
+    open_read(rt, part(path, 0, n + 2)).is_ok()
 }
 
 // Reads the set that an argument names, a folder or a bundle, to the front of `bundle`, which has
 // room for a byte more than a bundle can have.
 fn read_set(
+    rt: &impl Host,
     i: usize,
     path: &mut [u8],
     file: &mut [u8],
     bundle: &mut [u8],
     other: &mut [u8],
 ) -> Found {
-    let n = argument(i, path);
+    let n = argument(rt, i, path);
     if n == 0 {
         return Found::Failed;
     }
-    if is_folder(path, n) {
-        let size = gather(Which::Schedule, path, n, file, bundle, other);
+    if is_folder(rt, path, n) {
+        let size = gather(rt, Which::Schedule, path, n, file, bundle, other);
         if size == 0 {
             return Found::Failed;
         }
         return Found::Bytes { n: size };
     }
-    read_bundle(part(path, 0, n), bundle)
+    read_bundle(rt, part(path, 0, n), bundle)
 }
 
-fn read_bundle(name: &[u8], bundle: &mut [u8]) -> Found {
-    match read_named(name, bundle) {
+fn read_bundle(rt: &impl Host, name: &[u8], bundle: &mut [u8]) -> Found {
+    match read_named(rt, name, bundle) {
         Found::Bytes { n } => Found::Bytes { n },
         Found::Nothing => {
-            complain(name, b"there is neither a folder nor a bundle of that name");
+            complain(
+                rt,
+                name,
+                b"there is neither a folder nor a bundle of that name",
+            );
             Found::Failed
         }
         Found::Failed => Found::Failed,
@@ -133,32 +132,32 @@ fn cause_of(bundle: &[u8], work: &mut [u32]) -> usize {
 // ---- Taking the sets
 
 // Writes a number as it is printed.
-fn write_number(fd: i32, x: usize) {
+fn write_number(to: &impl Print, x: usize) {
     let mut text = [0u8; 20];
     let n = put_number(&mut text, 0, x);
-    io::write_all(fd, part(&text, 0, n));
+    let _ = to.write_all(part(&text, 0, n));
 }
 
 // A line on standard error, written over the one before; place is counted from 0.
-fn say_progress(place: usize, sets: usize) {
+fn say_progress(rt: &impl Host, place: usize, sets: usize) {
     if sets <= place {
         return;
     }
-    io::write_all(STDERR_FILENO, b"\rset ");
-    write_number(STDERR_FILENO, place + 1);
-    io::write_all(STDERR_FILENO, b" of ");
-    write_number(STDERR_FILENO, sets);
-    io::write_all(STDERR_FILENO, b"\x1b[K");
+    say(rt, b"\rset ");
+    write_number(&rt.errors(), place + 1);
+    say(rt, b" of ");
+    write_number(&rt.errors(), sets);
+    say(rt, b"\x1b[K");
 }
 
-fn may_say_progress(progress: bool, place: usize, sets: usize) {
+fn may_say_progress(rt: &impl Host, progress: bool, place: usize, sets: usize) {
     if progress {
-        say_progress(place, sets);
+        say_progress(rt, place, sets);
     }
 }
 
-fn end_progress() {
-    io::write_all(STDERR_FILENO, b"\r\x1b[K");
+fn end_progress(rt: &impl Host) {
+    say(rt, b"\r\x1b[K");
 }
 
 // A state that ends the run.
@@ -195,6 +194,7 @@ fn take_set(
 }
 
 fn take_named(
+    rt: &impl Host,
     i: usize,
     q: Quarter,
     place: usize,
@@ -205,7 +205,7 @@ fn take_named(
     causes: &mut [usize],
 ) -> Taken {
     let mut path = [0u8; 4096];
-    match read_set(i, &mut path, file, bundle, other) {
+    match read_set(rt, i, &mut path, file, bundle, other) {
         Found::Bytes { n } => take_set(q, place, part(bundle, 0, n), work, causes),
         Found::Nothing => stopped(q),
         Found::Failed => stopped(q),
@@ -224,6 +224,7 @@ fn argument_at(first: usize, place: usize) -> usize {
 
 // Takes as many sets as there are from the first on.
 fn take_all(
+    rt: &impl Host,
     first: usize,
     sets: usize,
     progress: bool,
@@ -242,9 +243,10 @@ fn take_all(
     while place < sets {
         let here = place;
         place += 1;
-        may_say_progress(progress, here, sets);
+        may_say_progress(rt, progress, here, sets);
         let q = taken.quarter;
         taken = take_named(
+            rt,
             argument_at(first, here),
             q,
             here,
@@ -263,58 +265,68 @@ fn take_all(
 
 // ---- What is printed
 
-fn print_totals(comma: bool, taken: Taken) -> bool {
+fn print_totals(rt: &impl Host, comma: bool, taken: Taken) -> bool {
     let mut text = [0u8; 4096];
     let q = taken.quarter;
     let totals = q.totals;
     let grand = taken.grand;
     if comma {
         let n = put_comma_text(&mut text, 0, &totals, &grand);
-        return print(part(&text, 0, n));
+        return print(rt, part(&text, 0, n));
     }
     let n = put_table(&mut text, 0, &totals, &grand);
-    print(part(&text, 0, n))
+    print(rt, part(&text, 0, n))
 }
 
-fn print_count(out: usize, sets: usize) {
+fn print_count(rt: &impl Host, out: usize, sets: usize) {
     if out == 0 {
-        print(b"\nnone left out of ");
-        write_number(STDOUT_FILENO, sets);
-        print(b"\n");
+        print(rt, b"\nnone left out of ");
+        write_number(&rt.output(), sets);
+        print(rt, b"\n");
         return;
     }
-    print(b"\nleft out ");
-    write_number(STDOUT_FILENO, out);
-    print(b" of ");
-    write_number(STDOUT_FILENO, sets);
-    print(b"\n");
+    print(rt, b"\nleft out ");
+    write_number(&rt.output(), out);
+    print(rt, b" of ");
+    write_number(&rt.output(), sets);
+    print(rt, b"\n");
 }
 
-fn print_marks(held: usize) -> bool {
-    print(b"not accepted: only ");
-    write_number(STDOUT_FILENO, held);
-    print(b" of its 81 marks hold; judge says which do not, and why\n")
+fn print_marks(rt: &impl Host, held: usize) -> bool {
+    print(rt, b"not accepted: only ");
+    write_number(&rt.output(), held);
+    print(
+        rt,
+        b" of its 81 marks hold; judge says which do not, and why\n",
+    )
 }
 
-fn print_cause(cause: usize) -> bool {
+fn print_cause(rt: &impl Host, cause: usize) -> bool {
     if cause == 1 {
-        return print(b"refused, 1: its bundle is under 164 or over 1,048,576 bytes long\n");
+        return print(
+            rt,
+            b"refused, 1: its bundle is under 164 or over 1,048,576 bytes long\n",
+        );
     }
     if cause == 2 {
-        return print(b"refused, 2: its bundle does not count 20 files\n");
+        return print(rt, b"refused, 2: its bundle does not count 20 files\n");
     }
     if cause == 3 {
-        return print(b"refused, 3: its files do not stand as the bundle's header says\n");
+        return print(
+            rt,
+            b"refused, 3: its files do not stand as the bundle's header says\n",
+        );
     }
     if cause <= 4 {
         return print(
+            rt,
             b"an amount of its assignments is no whole number of ten-thousandths, or is beyond 100,000,000 either way\n",
         );
     }
     if cause < 85 {
-        return print_marks(85 - cause);
+        return print_marks(rt, 85 - cause);
     }
-    print_marks(0)
+    print_marks(rt, 0)
 }
 
 // Bytes that a terminal would obey, each as a question mark.
@@ -334,15 +346,15 @@ fn tame(text: &mut [u8]) {
 }
 
 // The name of the set that an argument names.
-fn print_name(i: usize) {
+fn print_name(rt: &impl Host, i: usize) {
     let mut path = [0u8; 4096];
-    let n = os::arg(i, &mut path);
+    let n = argument_in(rt, i, &mut path);
     tame(&mut path);
-    print(part(&path, 0, n));
+    print(rt, part(&path, 0, n));
 }
 
 // The line of the set at a place, where it is left out.
-fn print_place(first: usize, place: usize, causes: &[usize]) {
+fn print_place(rt: &impl Host, first: usize, place: usize, causes: &[usize]) {
     if causes.len() <= place {
         return;
     }
@@ -350,31 +362,39 @@ fn print_place(first: usize, place: usize, causes: &[usize]) {
     if cause == 0 {
         return;
     }
-    print(b"  set ");
-    write_number(STDOUT_FILENO, place + 1);
-    print(b", ");
-    print_name(argument_at(first, place));
-    print(b": ");
-    print_cause(cause);
+    print(rt, b"  set ");
+    write_number(&rt.output(), place + 1);
+    print(rt, b", ");
+    print_name(rt, argument_at(first, place));
+    print(rt, b": ");
+    print_cause(rt, cause);
 }
 
-fn print_left_out(first: usize, causes: &[usize]) {
+fn print_left_out(rt: &impl Host, first: usize, causes: &[usize]) {
     let mut place = 0;
     while place < causes.len() {
-        print_place(first, place, causes);
+        print_place(rt, first, place, causes);
         place += 1;
     }
 }
 
-fn print_all(comma: bool, first: usize, sets: usize, taken: Taken, causes: &[usize]) {
-    print_totals(comma, taken);
+fn print_all(
+    rt: &impl Host,
+    comma: bool,
+    first: usize,
+    sets: usize,
+    taken: Taken,
+    causes: &[usize],
+) {
+    print_totals(rt, comma, taken);
     let q = taken.quarter;
-    print_count(left_out(q), sets);
-    print_left_out(first, causes);
+    print_count(rt, left_out(q), sets);
+    print_left_out(rt, first, causes);
 }
 
 // The run with lent memory for a file, for two bundles, and a workspace.
 fn run_with(
+    rt: &impl Host,
     asked: Asked,
     sets: usize,
     file: &mut [u8],
@@ -386,6 +406,7 @@ fn run_with(
     let first = asked.first;
     let progress = asked.progress;
     let taken = take_all(
+        rt,
         first,
         sets,
         progress,
@@ -396,28 +417,37 @@ fn run_with(
         &mut causes,
     );
     if progress {
-        end_progress();
+        end_progress(rt);
     }
     if taken.refusal == 0 {
-        print_all(asked.comma, first, sets, taken, &causes);
+        print_all(rt, asked.comma, first, sets, taken, &causes);
     }
 }
 
-fn run(asked: Asked, sets: usize) {
+fn run(rt: &impl Host, asked: Asked, sets: usize) {
     let mut file = [0u8; 1048577];
     let mut bundle = [0u8; 1048577];
     let mut other = [0u8; 1048577];
     let mut work = [0u32; 794702];
-    run_with(asked, sets, &mut file, &mut bundle, &mut other, &mut work);
+    run_with(
+        rt,
+        asked,
+        sets,
+        &mut file,
+        &mut bundle,
+        &mut other,
+        &mut work,
+    );
 }
 
-fn main() {
-    let count = os::arg_count();
-    let asked = what_is_asked();
+fn main(rt: HostRuntime) {
+    let count = argument_count(&rt);
+    let asked = what_is_asked(&rt);
     let first = asked.first;
     if count <= first {
-        complain(b"usage", b"quarter_sets [--csv] [--progress] SET...");
+        complain(&rt, b"usage", b"quarter_sets [--csv] [--progress] SET...");
         complain(
+            &rt,
             b"SET",
             b"a folder with the files of a set under their own names, or a bundle",
         );
@@ -425,8 +455,12 @@ fn main() {
     }
     let sets = count - first;
     if 256 < sets {
-        complain(b"too many sets", b"a quarter takes at most 256; name fewer");
+        complain(
+            &rt,
+            b"too many sets",
+            b"a quarter takes at most 256; name fewer",
+        );
         return;
     }
-    run(asked, sets);
+    run(&rt, asked, sets);
 }

@@ -9,58 +9,64 @@
 use bundle_bytes::{put_word, word_at};
 use cases::{fill_front, low};
 use gate_lists::Which;
-use libc::{STDIN_FILENO, STDOUT_FILENO};
 use parts::part;
-use program_io::fill;
+use program_io::{Host, fill, write_out};
 use reason_text::reasons;
 
-fn write_text(text: &[u8]) -> bool {
+fn write_text(rt: &impl Host, text: &[u8]) -> bool {
     let mut head = [0u8; 4];
     put_word(&mut head, 0, low(text.len()));
-    if io::write_all(STDOUT_FILENO, &head) {
-        return io::write_all(STDOUT_FILENO, text);
+    if write_out(rt, &head) {
+        return write_out(rt, text);
     }
     false
 }
 
-fn tell(which: Which, bundle: &[u8], grouped: bool, work: &mut [u32], out: &mut [u8]) -> bool {
+fn tell(
+    rt: &impl Host,
+    which: Which,
+    bundle: &[u8],
+    grouped: bool,
+    work: &mut [u32],
+    out: &mut [u8],
+) -> bool {
     let n = reasons(which, bundle, grouped, work, out);
-    write_text(part(out, 0, n))
+    write_text(rt, part(out, 0, n))
 }
 
 // Answers the next case; whether to go on.
-fn answer(buf: &mut [u8], work: &mut [u32], out: &mut [u8]) -> bool {
+fn answer(rt: &impl Host, buf: &mut [u8], work: &mut [u32], out: &mut [u8]) -> bool {
     let mut head = [0u8; 8];
-    if !fill(STDIN_FILENO, &mut head) {
+    if !fill(&mut rt.input(), &mut head) {
         return false;
     }
     let n = word_at(&head, 0) as usize;
     let asked = word_at(&head, 4);
     let grouped = asked % 2 == 1;
-    if !fill_front(buf, n) {
+    if !fill_front(rt, buf, n) {
         return false;
     }
     match asked / 2 {
-        0 => tell(Which::Schedule, part(buf, 0, n), grouped, work, out),
-        1 => tell(Which::Baseline, part(buf, 0, n), grouped, work, out),
-        2 => tell(Which::Contract, part(buf, 0, n), grouped, work, out),
+        0 => tell(rt, Which::Schedule, part(buf, 0, n), grouped, work, out),
+        1 => tell(rt, Which::Baseline, part(buf, 0, n), grouped, work, out),
+        2 => tell(rt, Which::Contract, part(buf, 0, n), grouped, work, out),
         _ => false,
     }
 }
 
 // A proved loop has to end, and nothing says that the input does. So the loop counts its turns
 // down, from a number that no run uses up.
-fn answer_all(buf: &mut [u8], work: &mut [u32], out: &mut [u8]) {
+fn answer_all(rt: &impl Host, buf: &mut [u8], work: &mut [u32], out: &mut [u8]) {
     let mut turns = u64::MAX;
-    while turns > 0 && answer(buf, work, out) {
+    while turns > 0 && answer(rt, buf, work, out) {
         turns -= 1;
     }
 }
 
-fn main() {
+fn main(rt: HostRuntime) {
     let mut buf = [0u8; 1048577];
     // a workspace with numbers in it that no file leaves there
     let mut work = [0xA5A5A5A5u32; 794702];
     let mut out = [0u8; 65536];
-    answer_all(&mut buf, &mut work, &mut out);
+    answer_all(&rt, &mut buf, &mut work, &mut out);
 }

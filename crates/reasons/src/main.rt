@@ -8,9 +8,8 @@ ghost use Rattle.reasons.specs.Printed.{printed};
 
 use gate_lists::Which;
 use gate_option::{Named, gate_named};
-use libc::STDIN_FILENO;
 use parts::part;
-use program_io::{Input, complain, print, read_all};
+use program_io::{Host, Input, argument_count, argument_in, complain, fail, print, read_all};
 use reason_text::reasons;
 use report::put_counted;
 
@@ -27,26 +26,26 @@ fn put_text(which: Which, bundle: &[u8], out: &mut [u8]) -> usize
 }
 
 // Judges standard input, with memory for the bundle and a byte more, and for the text.
-fn answer(which: Which, bundle: &mut [u8], text: &mut [u8]) {
-    match read_all(STDIN_FILENO, bundle) {
+fn answer(rt: &impl Host, which: Which, bundle: &mut [u8], text: &mut [u8]) {
+    match read_all(&mut rt.input(), bundle) {
         Input::Whole { n } => {
             let length = put_text(which, part(bundle, 0, n), text);
-            print(part(text, 0, length));
+            print(rt, part(text, 0, length));
         }
-        Input::Failed => os::fail(b"standard input"),
+        Input::Failed { error } => fail(rt, b"standard input", &error),
     }
 }
 
 // The same with memory of its own.
-fn answer_by(which: Which) {
+fn answer_by(rt: &impl Host, which: Which) {
     let mut bundle = [0u8; 65537];
     let mut text = [0u8; 65536];
-    answer(which, &mut bundle, &mut text);
+    answer(rt, which, &mut bundle, &mut text);
 }
 
 // The gate that the only argument names; document 01's where there is none.
-fn gate_asked() -> Named {
-    let count = os::arg_count();
+fn gate_asked(rt: &impl Host) -> Named {
+    let count = argument_count(rt);
     if count <= 1 {
         return Named::Gate {
             which: Which::Schedule,
@@ -56,14 +55,15 @@ fn gate_asked() -> Named {
         return Named::Nothing;
     }
     let mut word = [0u8; 16];
-    let n = os::arg(1, &mut word);
+    let n = argument_in(rt, 1, &mut word);
     gate_named(part(&word, 0, n))
 }
 
-fn main() {
-    match gate_asked() {
-        Named::Gate { which } => answer_by(which),
+fn main(rt: HostRuntime) {
+    match gate_asked(&rt) {
+        Named::Gate { which } => answer_by(&rt, which),
         Named::Nothing => complain(
+            &rt,
             b"usage",
             b"reasons [--baseline | --contract], with a bundle on standard input",
         ),

@@ -8,8 +8,7 @@
 ghost use Rattle.std.specs.Prelude.{◌+◌, ◌*◌, ◌≤◌, length};
 
 use bundle_bytes::{put_word, word_at};
-use libc::{STDIN_FILENO, STDOUT_FILENO};
-use program_io::{fill, put_long};
+use program_io::{Host, fill, put_long, write_out};
 use table_fields::{field_names, field_rows, file_type};
 use table_file::{FIXED, RECORDS, SINGLE, read_file};
 use table_rows::{field_count, first_field, rows_after};
@@ -94,9 +93,9 @@ fn answer_of(
     }
 }
 
-fn read_header() -> Header {
+fn read_header(rt: &impl Host) -> Header {
     let mut bytes = [0u8; 12];
-    if !fill(STDIN_FILENO, &mut bytes) {
+    if !fill(&mut rt.input(), &mut bytes) {
         return Header::Nothing;
     }
     Header::Asks {
@@ -107,8 +106,14 @@ fn read_header() -> Header {
 }
 
 // The answer to the next case, whose bytes go to the front of a buffer.
-fn next_answer(rows: &[u32], names: &[u8], buf: &mut [u8], cells: &mut [u32]) -> Next {
-    let Header::Asks { file, present, n } = read_header() else {
+fn next_answer(
+    rt: &impl Host,
+    rows: &[u32],
+    names: &[u8],
+    buf: &mut [u8],
+    cells: &mut [u32],
+) -> Next {
+    let Header::Asks { file, present, n } = read_header(rt) else {
         return Next::End;
     };
     if 19 < file {
@@ -117,7 +122,7 @@ fn next_answer(rows: &[u32], names: &[u8], buf: &mut [u8], cells: &mut [u32]) ->
     if buf.len() < n {
         return Next::End;
     }
-    if !fill(STDIN_FILENO, &mut buf[..n]) {
+    if !fill(&mut rt.input(), &mut buf[..n]) {
         return Next::End;
     }
     Next::Answered(answer_of(file, present, &buf[..n], rows, names, cells))
@@ -169,6 +174,7 @@ fn put_answer(out: &mut [u8], at: usize, answer: Answer, cells: &[u32]) -> usize
 
 // Answers as many cases as the output surely has room for and writes the answers; whether to go on.
 fn answer_some(
+    rt: &impl Host,
     rows: &[u32],
     names: &[u8],
     buf: &mut [u8],
@@ -177,33 +183,40 @@ fn answer_some(
 ) -> bool {
     let mut used = 0;
     while used + 753704 <= out.len() {
-        match next_answer(rows, names, buf, cells) {
+        match next_answer(rt, rows, names, buf, cells) {
             Next::Answered(answer) => {
                 used = put_answer(out, used, answer, cells);
             }
             Next::End => {
-                io::write_all(STDOUT_FILENO, &out[..used]);
+                write_out(rt, &out[..used]);
                 return false;
             }
         }
     }
-    io::write_all(STDOUT_FILENO, &out[..used])
+    write_out(rt, &out[..used])
 }
 
 // A proved loop has to end, and nothing says that the input does. So the loop counts its turns
 // down, from a number that no run uses up.
-fn answer_all(rows: &[u32], names: &[u8], buf: &mut [u8], cells: &mut [u32], out: &mut [u8]) {
+fn answer_all(
+    rt: &impl Host,
+    rows: &[u32],
+    names: &[u8],
+    buf: &mut [u8],
+    cells: &mut [u32],
+    out: &mut [u8],
+) {
     let mut turns = u64::MAX;
-    while turns > 0 && answer_some(rows, names, buf, cells, out) {
+    while turns > 0 && answer_some(rt, rows, names, buf, cells, out) {
         turns -= 1;
     }
 }
 
-fn main() {
+fn main(rt: HostRuntime) {
     let rows = field_rows();
     let names = field_names();
     let mut buf = [0u8; 1048576];
     let mut cells = [0u32; 188416];
     let mut out = [0u8; 1048576];
-    answer_all(&rows, &names, &mut buf, &mut cells, &mut out);
+    answer_all(&rt, &rows, &names, &mut buf, &mut cells, &mut out);
 }

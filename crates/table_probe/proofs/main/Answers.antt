@@ -1,0 +1,14 @@
+-- `table_probe::main` is safe and ends. The lengths of its large arrays are known by a law, not counted.
+use mathlib.Core.Path.{sym}
+use Prim.Native.Nat.{ℕ}
+use lib.ListN.{length-replicate}
+use Rattle.table_probe.proofs.main.Goals as goal
+
+pub slice_bounds-answer_all-end-3 : goal.slice_bounds-answer_all-end-3
+slice_bounds-answer_all-end-3 c = sym (length-replicate {A = ℕ} 1048576 0)
+
+pub slice_bounds-answer_all-end-4 : goal.slice_bounds-answer_all-end-4
+slice_bounds-answer_all-end-4 c = sym (length-replicate {A = ℕ} 188416 0)
+
+pub slice_bounds-answer_all-end-5 : goal.slice_bounds-answer_all-end-5
+slice_bounds-answer_all-end-5 c = sym (length-replicate {A = ℕ} 1048576 0)
