@@ -2,12 +2,12 @@
 -- a reader gives where its cells have no room, is no mark.
 -- Assumes nothing.
 use Prim.Native.Nat.{ℕ, ◌*◌, ◌^◌, ◌≤◌, ◌<◌}
-use mathlib.Core.Path.{◌≡◌, refl, sym}
-use mathlib.Core.Bool.{Bool, true, false, cond, ◌&&◌, false≢true}
+use mathlib.Core.Path.{◌≡◌, refl}
+use mathlib.Core.Bool.{Bool, false, ◌&&◌, false≢true}
 use mathlib.Core.List.{List, [], ◌∷◌}
 use borrow.Author.Tests.{ltb-true, le-leb}
 use lib.ListN.{length}
-use lib.Dec.{ltb, leb, eqb}
+use lib.Dec.{ltb, eqb}
 use Rattle.json_bytes.proofs.Laws.{by-test, either}
 use Rattle.json_bytes.proofs.FaultKinds.{In, wider, in_right}
 use Rattle.parts.specs.Files.{File, Left, Given, bytes_of}

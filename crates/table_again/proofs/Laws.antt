@@ -1,13 +1,11 @@
 -- What is read with the lent rows of a file's own fields is the table as document 002 has it.
 -- Assumes nothing.
 use Prim.Native.Nat.{ℕ}
-use mathlib.Core.Path.{◌≡◌, refl, sym, ap, ◌∙◌}
+use mathlib.Core.Path.{◌≡◌, refl, ap, ◌∙◌}
 use mathlib.Core.Bool.{Bool, true, false, cond, not}
 use mathlib.Core.List.{List, []}
-use lib.ListN.{length}
-use Rattle.parts.specs.Files.{File, Left, Given, new_file, bytes_of}
+use Rattle.parts.specs.Files.{Left, Given, new_file, bytes_of}
 use Rattle.table_rows.specs.Rows.{fields_from, rows_after, first_field, field_count}
-use Rattle.table_fields.specs.Fields.{fields_of}
 use Rattle.table_fields.specs.Flat.{field_rows, field_names}
 use Rattle.table_fields.proofs.Facts.{file-fields}
 use Rattle.table_file.specs.declared.FileRead.{FileRead}
