@@ -1,7 +1,7 @@
 -- The lent tables describe the contract side's gate, and what that gate is in numbers.
 -- Assumes nothing.
 use Prim.Native.Nat.{ℕ, ◌≤◌, ◌<◌}
-use mathlib.Core.Path.{◌≡◌, refl, ◌∙◌}
+use mathlib.Core.Path.{◌≡◌, refl}
 use mathlib.Core.Bool.{true}
 use mathlib.Core.List.{List, [], map, flatten}
 use borrow.Author.Tests.{leb-true}

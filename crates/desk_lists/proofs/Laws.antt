@@ -18,7 +18,7 @@ use Rattle.standing.proofs.Laws.{slice_first, slice-second, slice-third, placed-
 use Rattle.mark_numbers.specs.Marks.{Marks, fresh_marks, fresh_over}
 use Rattle.mark_numbers.proofs.Laws.{Long, lists-long, fresh-over}
 use Rattle.bundle_bytes.specs.Pieces.{changed}
-use Rattle.bundle_bytes.proofs.Laws.{changed-hit, changed-miss, changed-same}
+use Rattle.bundle_bytes.proofs.Laws.{changed-miss, changed-same}
 use Rattle.bundle_layout.specs.Bundle.{offset_at, length_at, is_omitted, part_at, file_at}
 use Rattle.gate_marks.specs.declared.Scope.{Scope}
 use Rattle.gate_marks.specs.declared.Scope.TheVariants.{Full, Change}
@@ -27,7 +27,6 @@ use Rattle.gate_marks.specs.Marks.{full_marks}
 use Rattle.gate_marks.specs.Again.{room_is_there, has_lists, marks_after, work_afterwards, work_judged}
 use Rattle.gate_calls.specs.Calls.{changed_marks}
 use Rattle.gate_calls.specs.Lent.{lent_fault, work_left}
-use Rattle.gate_calls.proofs.Lent.{lent-lists}
 use Rattle.gate_lists.proofs.Answers.{judged-marks, judged-work, all_new, change-new, work-untouched, work-judged, lists-even}
 use Rattle.desks_calls.specs.declared.Seen.{Seen}
 use Rattle.desks_calls.specs.declared.Seen.TheVariants.{Nothing, Own, Shared}

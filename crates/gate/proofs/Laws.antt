@@ -3,11 +3,9 @@
 -- Assumes nothing.
 use Prim.Native.Nat.{ℕ, ◌+◌, ◌-◌, ◌≤◌, ◌<◌}
 use mathlib.Core.Path.{◌≡◌, refl, sym, ap, ◌∙◌}
-use mathlib.Core.List.{List, [], ◌∷◌}
+use mathlib.Core.List.{List, []}
 use native.Mathlib.Omega.{arith}
 use borrow.Author.Tests.{le-leb}
-use denote.Enum.Declared.{tag_of}
-use types.Run.{OneOf, miss}
 use lib.ListN.{length}
 use Rattle.parts.specs.Files.{File}
 use Rattle.parts.proofs.Laws.{part-past}
@@ -19,7 +17,6 @@ use Rattle.board.specs.Board.{board_of}
 use Rattle.reason_answer.specs.declared.Shown.{Shown}
 use Rattle.reason_answer.specs.declared.Reason.{Reason}
 use Rattle.reason_answer.specs.declared.Reason.TheVariants.{Refused, Holds, NotJudged, OwnMark, Broken, Missing}
-use Rattle.reason_answer.specs.contracts.Reason.{the_type}
 use Rattle.gate_marks.specs.Again.{room_is_there, has_lists}
 use Rattle.gate_calls.specs.Calls.{Answer, judgement, tried, change_made}
 use Rattle.gate_calls.specs.Lent.{lent_fault, judged_in, tried_in, made_in, output_in}
@@ -83,15 +80,12 @@ module _ (s : List ℕ) (shown : Shown) where
   unfolding shown_part
   shown-past l = sym (part-past s shown.start (shown.start + shown.length) (omega arith) (omega arith))
 
--- an answer of any other variant, told by its number, shows none
-abbrev others : List ℕ
-others = 0 ∷ 1 ∷ 2 ∷ 3 ∷ []
-
-pub none-shown : (s : List ℕ) (told : Reason) → OneOf others (tag_of the_type told) → [] ≡ value_shown s told
+-- an answer of any other variant shows none
+pub none-shown : (s : List ℕ) (told : Reason) → ((shown : Shown) → told ≡ Broken shown → ⊥) → ((shown : Shown) (searched : ℕ) → told ≡ Missing shown searched → ⊥) → [] ≡ value_shown s told
 unfolding value_shown
-none-shown s (Refused refusal) k = refl
-none-shown s Holds k = refl
-none-shown s (NotJudged file) k = refl
-none-shown s (OwnMark kind place companion) k = refl
-none-shown s (Broken shown) k = absurd (miss others 4 tt k)
-none-shown s (Missing shown searched) k = absurd (miss others 5 tt k)
+none-shown s (Refused refusal) broken missing = refl
+none-shown s Holds broken missing = refl
+none-shown s (NotJudged file) broken missing = refl
+none-shown s (OwnMark kind place companion) broken missing = refl
+none-shown s (Broken shown) broken missing = absurd (broken shown refl)
+none-shown s (Missing shown searched) broken missing = absurd (missing shown searched refl)

@@ -1,8 +1,8 @@
 -- What the calls with a list answer, from what their steps answer.
 -- Assumes nothing.
-use Prim.Native.Nat.{ℕ, ◌+◌, ◌≤◌, ◌<◌}
+use Prim.Native.Nat.{ℕ, ◌≤◌, ◌<◌}
 use mathlib.Core.Path.{◌≡◌, refl, sym, ap, ◌∙◌}
-use mathlib.Core.Bool.{Bool, true, false, not, cond, ◌&&◌, true≢false}
+use mathlib.Core.Bool.{Bool, true, false, not, cond, true≢false}
 use mathlib.Core.List.{List}
 use native.Mathlib.Omega.{arith}
 use borrow.Author.Tests.{eq-eqb, ne_eqb, eqb-true, eqb-false, leb-true, le-leb, lt-leb}
@@ -11,9 +11,9 @@ use lib.Dec.{leb, ltb, eqb}
 use Rattle.json_bytes.proofs.Laws.{by-test, both_left, both_right}
 use Rattle.parts.specs.Files.{File}
 use Rattle.mark_numbers.specs.Marks.{Marks, fresh_marks, fresh_over, have_length}
-use Rattle.mark_numbers.proofs.Laws.{Long, lists-long, long-lists, lists-wrong, lists-right, fresh-over}
+use Rattle.mark_numbers.proofs.Laws.{lists-long, long-lists, lists-wrong, lists-right, fresh-over}
 use Rattle.bundle_layout.specs.Bundle.{bundle_fault, file_at, bundle_length}
-use Rattle.bundle_layout.specs.Change.{files_after, try_fault, make_fault, output, output_of}
+use Rattle.bundle_layout.specs.Change.{files_after, try_fault, make_fault, output}
 use Rattle.bundle.specs.Answers.{change_of, tried_bundle}
 use Rattle.bundle.specs.declared.Made.{Made}
 use Rattle.entries.specs.declared.Entry.{Entry}
@@ -306,14 +306,14 @@ module _ (lent : ℕ) (handed : Marks) (t : Bool) (t-is : t ≡ have_length 81 h
   lists-are : t ≡ have_length (marks_of schedule) handed
   lists-are = t-is ∙ ap (λ n. have_length n handed) (sym marks-are)
 
-  pub fault-wrong : not t ≡ true → 100 ≡ list_fault schedule lent handed
-  fault-wrong e = wrong-lists schedule lent handed (lists-wrong _ _ lists-are e)
+  pub fault-wrong : t ≡ false → 100 ≡ list_fault schedule lent handed
+  fault-wrong e = wrong-lists schedule lent handed (lists-wrong _ _ lists-are (ap not e))
 
-  pub fault-short : not t ≡ false → lent < 1056846 → 14 ≡ list_fault schedule lent handed
-  fault-short e l = short-space schedule lent handed (lists-right _ _ lists-are e) few-files (rw space-is l)
+  pub fault-short : t ≡ true → lent < 1056846 → 14 ≡ list_fault schedule lent handed
+  fault-short e l = short-space schedule lent handed (lists-right _ _ lists-are (ap not e)) few-files (rw space-is l)
 
-  pub fault-none : not t ≡ false → 1056846 ≤ lent → 0 ≡ list_fault schedule lent handed
-  fault-none e l = long-space schedule lent handed (lists-right _ _ lists-are e) few-files (rw space-is l)
+  pub fault-none : t ≡ true → 1056846 ≤ lent → 0 ≡ list_fault schedule lent handed
+  fault-none e l = long-space schedule lent handed (lists-right _ _ lists-are (ap not e)) few-files (rw space-is l)
 
 -- how many there are, and what was written, in a workspace that is long enough
 module _ (scope : Scope) (files : ℕ → File) (work : List ℕ) (room : ℕ) (enough : list_space_of schedule ≤ length work) where

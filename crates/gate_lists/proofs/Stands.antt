@@ -9,12 +9,12 @@ use mathlib.Core.List.{List}
 use native.Mathlib.Nat.{eq-or-lt_of_le}
 use native.Mathlib.Numerals.{add-one}
 use native.Mathlib.Omega.{arith}
-use lib.ListN.{length, take, drop}
+use lib.ListN.{length}
 use lib.Seq.{take_all}
 use lib.Dec.{ltb, eqb}
 use borrow.Author.Tests.{le-leb, eqb-true, eqb-false}
 use Rattle.parts.specs.Part.{part_of}
-use Rattle.parts.specs.Files.{File, Left, Given, new_file}
+use Rattle.parts.specs.Files.{Left, Given, new_file}
 use Rattle.parts.proofs.Laws.{part-is}
 use Rattle.standing.specs.Standing.{slice_of, standing, start_standing, standing_with}
 use Rattle.standing.proofs.Laws.{slice_first, slice-second, placed-length, placed-fits, placed-there, placed-nowhere, placed-other, start-placed, start-kept}

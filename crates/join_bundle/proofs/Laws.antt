@@ -2,7 +2,7 @@
 -- Assumes nothing.
 use Prim.Native.Nat.{ℕ, ◌+◌, ◌-◌, ◌≤◌, ◌<◌}
 use mathlib.Core.Path.{◌≡◌, refl, sym, ap, ◌∙◌}
-use mathlib.Core.Bool.{Bool, true, false, cond, not, ◌&&◌, ◌||◌, true≢false}
+use mathlib.Core.Bool.{Bool, true, false, cond, not, ◌&&◌, true≢false}
 use mathlib.Core.List.{List, ◌++◌}
 use native.Mathlib.Nat.{sub-zero}
 use native.Mathlib.Omega.{arith}
@@ -14,7 +14,7 @@ use Rattle.parts.specs.Files.{File, Left, Given, is_present, bytes_of, new_file}
 use Rattle.parts.proofs.Laws.{part-is}
 use Rattle.bundle_bytes.specs.Pieces.{changed}
 use Rattle.bundle_bytes.proofs.Laws.{start_of-same, start-changed}
-use Rattle.bundle_layout.specs.Bundle.{length_at, end_of, is_omitted, bundle_fault, part_at, file_at, pieces_of, bundle_of, bundle_length}
+use Rattle.bundle_layout.specs.Bundle.{is_omitted, bundle_fault, part_at, file_at, pieces_of, bundle_of, bundle_length}
 use Rattle.bundle_layout.specs.Change.{files_after, try_fault, make_fault, output_of, output}
 use Rattle.bundle_layout.proofs.Laws.{bundle-length, fault-size, end-within, part_length, valid-length, length-after, try-fine, try-make}
 use Rattle.bundle_layout.proofs.RoundTrip.{bundle-same, length-same, read_back, bundle-accepted, after-change, output-made, output-read}

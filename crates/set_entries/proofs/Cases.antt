@@ -3,10 +3,8 @@
 use Prim.Native.Nat.{ℕ}
 use Prim.Native.String.{String}
 use mathlib.Core.Path.{◌≡◌, refl}
-use mathlib.Core.Bool.{cond}
 use mathlib.Core.List.{List, [], ◌∷◌, map}
-use lib.Dec.{eqb}
-use Rattle.parts.specs.Files.{File, Left, Given, bytes_of}
+use Rattle.parts.specs.Files.{Given, bytes_of}
 use Rattle.json_bytes.specs.Ascii.{codes}
 use Rattle.table_fields.specs.Fields.{tables, fields_of}
 use Rattle.table_file.proofs.Opens.{open-files}

@@ -1,6 +1,6 @@
 -- The entries of files, as numbers in a workspace: one file's, and those of one after the other.
 -- Assumes nothing.
-use Prim.Native.Nat.{ℕ, zero, suc, ◌+◌, ◌-◌, ◌*◌, ◌≤◌, ◌<◌}
+use Prim.Native.Nat.{ℕ, suc, ◌+◌, ◌-◌, ◌*◌, ◌≤◌, ◌<◌}
 use mathlib.Core.Path.{◌≡◌, refl, sym, ap, ◌∙◌}
 use mathlib.Core.Bool.{Bool, true, false, cond, not, ◌&&◌}
 use mathlib.Core.List.{List, [], ◌∷◌, ◌++◌, append-nil}
@@ -20,8 +20,6 @@ use Rattle.bundle_bytes.proofs.Laws.{written-fits, written-length, written-part}
 use Rattle.table_file.specs.declared.FileRead.{FileRead}
 use Rattle.table_file.specs.File.{Expected, file_of}
 use Rattle.table_file.proofs.Kept.{file-length, file-records}
-use Rattle.rule_cells.specs.Cells.{table}
-use Rattle.entries.specs.declared.Entry.{Entry}
 use Rattle.entries.specs.Entries.{entries_of}
 use Rattle.entries.specs.Flat.{flat_of, listed_in}
 use Rattle.entries.proofs.Flat.{written-nothing}

@@ -1,6 +1,6 @@
 -- The entries' numbers are there, from their place on, whatever is written before it afterwards; and they read back as the entries.
 -- Assumes nothing.
-use Prim.Native.Nat.{ℕ, zero, suc, ◌+◌, ◌-◌, ◌*◌, ◌≤◌, ◌<◌}
+use Prim.Native.Nat.{ℕ, zero, suc, ◌+◌, ◌-◌, ◌*◌, ◌≤◌}
 use mathlib.Core.Path.{◌≡◌, refl, sym, ap, ◌∙◌}
 use mathlib.Core.Bool.{Bool, true, false, cond}
 use mathlib.Core.List.{List, [], ◌∷◌, ◌++◌, append_assoc}
@@ -21,7 +21,7 @@ use Rattle.entries.specs.declared.Entry.{Entry}
 use Rattle.entries.specs.Flat.{entry_numbers, flat_of, entry_in, entries_in}
 use Rattle.entries.proofs.Flat.{flat-long, flat-join, written_on}
 use Rattle.gate_marks.specs.Work.{room_for, room_of, room_start, read_of, cells_before, work_after, work_read}
-use Rattle.gate_marks.proofs.Rooms.{room_next, room-grows, before-most}
+use Rattle.gate_marks.proofs.Rooms.{room_next, before-most}
 use Rattle.set_entries.specs.Entries.{key_field, file_entries, entries_up_to}
 use Rattle.set_entries.specs.Work.{file_listed, listed_up_to}
 use Rattle.set_entries.proofs.Laws.{cells-long, few-entries, listed-long, entries-skip, entries-more}

@@ -1,14 +1,13 @@
 -- The links of a set by their classes, and each way through the call.
 -- Assumes nothing.
-use Prim.Native.Nat.{ℕ, suc, ◌+◌, ◌-◌, ◌≤◌, ◌<◌}
+use Prim.Native.Nat.{ℕ, ◌+◌, ◌-◌, ◌≤◌, ◌<◌}
 use mathlib.Core.Path.{◌≡◌, refl, sym, ap, ◌∙◌}
-use mathlib.Core.Bool.{Bool, true, false, cond, ◌&&◌}
+use mathlib.Core.Bool.{Bool, true}
 use mathlib.Core.List.{List, ◌++◌}
 use native.Mathlib.Omega.{arith}
-use borrow.Author.Tests.{eq-eqb, ne_eqb, le-leb, lt-leb, lt-ltb}
+use borrow.Author.Tests.{eq-eqb, ne_eqb, le-leb, lt-leb}
 use lib.ListN.{length, get_or, take, drop, length-append, length-drop}
 use lib.Seq.{take_at, length-take-le}
-use lib.Dec.{ltb, leb, eqb}
 use Rattle.parts.specs.Files.{bytes_of}
 use Rattle.mark_numbers.specs.Marks.{list_of}
 use Rattle.mark_numbers.proofs.Laws.{list_at, list_length}
@@ -25,7 +24,7 @@ use Rattle.schedule.specs.Schedule.{free, expected_files, schedule}
 use Rattle.table_again.specs.Again.{as_records, file_read_again}
 use Rattle.link_classes.specs.Classes.{predecessor_id, successor_id, class_of, are_columns, column_after}
 use Rattle.link_classes.proofs.Laws.{class-below, leads-same}
-use Rattle.link_loops.specs.Loop.{IsLoop, ShowsRing}
+use Rattle.link_loops.specs.Loop.{ShowsRing}
 use Rattle.link_loops.specs.Links.{link_leads, all_below, are_links, ShowsLinks}
 use Rattle.link_loops.proofs.Shown.{below_each, are-links, shows_same}
 use Rattle.show_loop.specs.Show.{links, leads_to, loop_fault, ShowsLoop, workspace, ShowsLoopIn}

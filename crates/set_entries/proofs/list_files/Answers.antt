@@ -1,0 +1,34 @@
+-- `set_entries::list_files` meets its contract. The loop's invariant: the entries of the first i files are listed; the measure is how
+-- many files are left.
+use Prim.Native.Nat.{◌-◌}
+use mathlib.Core.Path.{refl}
+use native.Mathlib.Omega.{arith}
+use Rattle.set_entries.proofs.Laws.{listing-starts, listing-skips, listing-goes-on, listing-ends, when-few}
+use Rattle.set_entries.proofs.list_files.Goals as goal
+
+pub loop-i-init : goal.loop-i-init
+loop-i-init c = (listing-starts _ _ _ _ _, omega arith)
+
+pub overflow_mul-count : goal.overflow_mul-count
+overflow_mul-count c = omega (arith, c.loop-i.invariant.0.few, c.loop-i-test.true)
+
+pub overflow_add-base : goal.overflow_add-base
+overflow_add-base c = omega (arith, c.loop-i.invariant.0.few, c.loop-i-test.true, c.requires.2, c.loop-i.invariant.0.work-long)
+
+pub list_file-more-requires : goal.list_file-more-requires
+list_file-more-requires c = (omega (arith, c.requires.1), omega (arith, c.loop-i.invariant.0.few, c.loop-i-test.true, c.requires.2, c.loop-i.invariant.0.work-long))
+
+pub overflow_add-count : goal.overflow_add-count
+overflow_add-count c = omega (arith, c.loop-i.invariant.0.few, c.loop-i-test.true, c.list_file-more.ensures.value.1)
+
+pub loop-i-preserved-then-is_read : goal.loop-i-preserved-then-is_read
+loop-i-preserved-then-is_read c = (listing-goes-on _ _ _ c.loop-i.invariant.0 (when-few _ _ c.requires.0 c.is_read.ensures) c.if-is_read.true refl (c.list_file-more.ensures.value, c.list_file-more.ensures.work_after), omega arith)
+
+pub loop-i-preserved : goal.loop-i-preserved
+loop-i-preserved c = (listing-skips _ _ _ c.loop-i.invariant.0 (when-few _ _ c.requires.0 c.is_read.ensures) c.if-is_read.false, omega arith)
+
+pub shape_of-work : goal.shape_of-work
+shape_of-work c = c.loop-i.invariant.0.work-long
+
+pub returns : goal.returns
+returns c = let whole = listing-ends _ _ _ c.loop-i.invariant.0 (omega (arith, c.loop-i-test.false, c.loop-i.invariant.1)) in record { value = whole.0; work_after = whole.1 }
