@@ -1,6 +1,6 @@
 -- What a call answers both desks and writes, as the code comes to it.
 -- Assumes nothing.
-use Prim.Native.Nat.{ℕ, ◌+◌, ◌*◌, ◌<◌}
+use Prim.Native.Nat.{ℕ}
 use mathlib.Core.Path.{◌≡◌, refl, sym, ap, ◌∙◌}
 use mathlib.Core.Bool.{Bool, true, false, cond, not, true≢false}
 use mathlib.Core.List.{List}
@@ -19,7 +19,6 @@ use Rattle.gate_marks.specs.Gate.{Gate}
 use Rattle.gate_calls.specs.Lent.{lent_fault}
 use Rattle.desks_calls.specs.declared.Whose.{Whose}
 use Rattle.desks_calls.specs.declared.Seen.{Seen}
-use Rattle.desks_calls.specs.Join.{or_else, DeskAnswer}
 use Rattle.desks_calls.specs.Desks.{Sight, sight_of, seen_by_a, seen_by_b, desk_fault, answered_by, bundle_changed, is_written, DesksAnswer, both_answered, output_by}
 use Rattle.desks_calls.specs.Lent.{desk_in, desks_in, desks_output_in, desk_left, desks_left}
 use Rattle.desks_calls.proofs.Laws.{either-none}

@@ -9,7 +9,7 @@ use borrow.Author.Tests.{eq-eqb, ne_eqb, eqb-true, eqb-false}
 use lib.ListN.{length}
 use lib.Dec.{eqb}
 use Rattle.json_bytes.proofs.Laws.{by-test}
-use Rattle.parts.specs.Files.{File, new_file}
+use Rattle.parts.specs.Files.{File}
 use Rattle.mark_numbers.specs.Marks.{Marks, fresh_marks, fresh_over}
 use Rattle.mark_numbers.proofs.Laws.{Long, lists-long, fresh-over}
 use Rattle.bundle_layout.specs.Bundle.{file_at}
@@ -20,13 +20,12 @@ use Rattle.gate_marks.specs.Marks.{full_marks}
 use Rattle.gate_marks.specs.Again.{room_is_there, has_lists, marks_after, work_afterwards, work_judged}
 use Rattle.gate_calls.specs.Calls.{changed_marks}
 use Rattle.gate_calls.specs.Lent.{lent_fault, judge_left, change_left}
-use Rattle.gate_calls.proofs.Lent.{lent-lists}
 use Rattle.gate_lists.proofs.Answers.{judged-marks, judged-work, all_new, change-new, work-untouched, work-judged, lists-even}
 use Rattle.drawer_held.specs.Drawer.{drawer_fault, drawer_change_fault, drawer_made}
 use Rattle.drawer_held.proofs.Laws.{change-none}
-use Rattle.drawer_calls.specs.Calls.{DrawerAnswer, drawer_answer, drawer_judged, drawer_changed}
+use Rattle.drawer_calls.specs.Calls.{drawer_answer, drawer_judged, drawer_changed}
 use Rattle.drawer_calls.specs.Lent.{drawer_judged_in, drawer_changed_in, drawer_made_in}
-use Rattle.drawer_calls.proofs.Lent.{changed-well, changed-not, lent-judge, lent-change, lent-drawer, lent-refused, lent-untouched}
+use Rattle.drawer_calls.proofs.Lent.{changed-well, changed-not, lent-judge, lent-change, lent-refused}
 
 -- the number of the slice that a new file stands in
 pub new-number : (present : Bool) {which : ℕ} → which ≡ cond (not present) 0 2 → which ≡ cond present 2 0

@@ -35,13 +35,13 @@ module _ (gate : ℕ) (handed : Marks) where
     unfolding has_lists
     board-is = ap (λ m. have_length m handed) (sym (n-is ∙ ap (λ w. marks_of (gate_called w)) w-is))
 
-    pub board-wrong : not t ≡ true → 100 ≡ board_fault gate handed
+    pub board-wrong : t ≡ false → 100 ≡ board_fault gate handed
     unfolding board_fault
-    board-wrong e = rw (le-ltb 2 gate known, board-is, lists-wrong n handed t-is e)
+    board-wrong e = rw (le-ltb 2 gate known, board-is, lists-wrong n handed t-is (ap not e))
 
-    pub board-right : not t ≡ false → 0 ≡ board_fault gate handed
+    pub board-right : t ≡ true → 0 ≡ board_fault gate handed
     unfolding board_fault
-    board-right e = rw (le-ltb 2 gate known, board-is, lists-right n handed t-is e)
+    board-right e = rw (le-ltb 2 gate known, board-is, lists-right n handed t-is (ap not e))
 
 -- lists that have no fault are of as many as the gate has marks
 pub board-fits : (gate : ℕ) (handed : Marks) {f : ℕ} → f ≡ board_fault gate handed → f ≡ 0 → have_length (marks_of (gate_numbered gate)) handed ≡ true

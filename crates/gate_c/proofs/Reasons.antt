@@ -8,7 +8,6 @@ use borrow.Author.Tests.{eq-eqb, ne_eqb, lt-ltb, le-ltb, leb-true}
 use lib.ListN.{length, get_or}
 use lib.Dec.{leb}
 use Rattle.reason_answer.specs.declared.Reason.{Reason}
-use Rattle.reason_answer.specs.declared.Reason.TheVariants.{Refused}
 use Rattle.reason_numbers.specs.Numbers.{told_numbers, told_over}
 use Rattle.parts.specs.Part.{part_of}
 use Rattle.json_bytes.specs.Ascii.{codes}

@@ -1,8 +1,8 @@
 -- Demands 1 to 3 of this gate: the theorems of any gate, with its numbers. Document 02, order 9: "Refusals: 1 reads 36 in place of 164,
 -- 2 reads 4, 4 reads over 3."
 -- Assumes nothing.
-use Prim.Native.Nat.{ℕ, ◌≤◌, ◌<◌}
-use mathlib.Core.Path.{◌≡◌, refl}
+use Prim.Native.Nat.{ℕ, ◌<◌}
+use mathlib.Core.Path.{◌≡◌}
 use mathlib.Core.Logic.{◌⊎◌}
 use mathlib.Core.Bool.{true, false}
 use mathlib.Core.List.{List}
@@ -10,7 +10,7 @@ use lib.ListN.{length}
 use Rattle.bundle_bytes.specs.Words.{word_at}
 use Rattle.parts.specs.Files.{File}
 use Rattle.mark_numbers.specs.Marks.{Marks, mark_in}
-use Rattle.bundle_layout.specs.Bundle.{header_size, laid_out, bundle_fault, file_at, bundle_of}
+use Rattle.bundle_layout.specs.Bundle.{header_size, laid_out, bundle_fault, bundle_of}
 use Rattle.bundle_layout.specs.Change.{files_after, try_fault, make_fault}
 use Rattle.gate_marks.specs.Gate.{reads_file}
 use Rattle.gate_marks.specs.Marks.{mark_at}
@@ -18,7 +18,6 @@ use Rattle.gate_calls.specs.Calls.{answer, changed_marks, judgement, tried, chan
 use Rattle.gate_calls.specs.Sequence.{Step, after}
 use Rattle.gate_calls.proofs.Refusals as any
 use Rattle.gate_calls.proofs.Demand3 as any3
-use Rattle.gate_marks.specs.Gate.{marks_of}
 use Rattle.contract.specs.Contract.{contract}
 use Rattle.contract.proofs.Laws.{files-are, marks-are}
 

@@ -5,7 +5,7 @@ use mathlib.Core.Path.{◌≡◌, refl}
 use mathlib.Core.Bool.{true, false}
 use mathlib.Core.List.{List, [], ◌∷◌, map, flat_map}
 use Rattle.json_bytes.specs.Reads.{within}
-use Rattle.json_bytes.proofs.FaultKinds.{is_in, In, below}
+use Rattle.json_bytes.proofs.FaultKinds.{is_in, below}
 use Rattle.parts.specs.Files.{File}
 use Rattle.mark_numbers.specs.Marks.{Marks, mark_in}
 use Rattle.bundle_layout.specs.Change.{try_fault, make_fault}

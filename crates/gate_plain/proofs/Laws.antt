@@ -2,7 +2,7 @@
 -- Assumes nothing.
 use Prim.Native.Nat.{ℕ, ◌+◌, ◌-◌, ◌≤◌, ◌<◌, ◌/◌}
 use mathlib.Core.Path.{◌≡◌, refl, sym, ap, ◌∙◌}
-use mathlib.Core.Bool.{Bool, true, false, not, cond, ◌&&◌}
+use mathlib.Core.Bool.{Bool, true, false, not, cond}
 use mathlib.Core.List.{List, ◌++◌}
 use native.Mathlib.Omega.{arith}
 use borrow.Author.Tests.{lt-ltb, le-ltb, eq-eqb, ne_eqb}
@@ -27,10 +27,9 @@ use Rattle.gate_marks.specs.Gate.{Gate, gate_from, marks_of, rule_of_mark}
 use Rattle.gate_marks.specs.Work.{zeros, width_of, room_of, read_of}
 use Rattle.gate_marks.specs.Marks.{mark_read, file_mark, table_of, rule_mark, rule_mark_at, mark_at, full_marks}
 use Rattle.gate_marks.proofs.Rooms.{length-zeros}
-use Rattle.gate_calls.specs.Calls.{answer, judgement}
+use Rattle.gate_calls.specs.Calls.{judgement}
 use Rattle.schedule.specs.Schedule.{schedule}
 use Rattle.schedule.proofs.Laws.{files-are, marks-are}
-use Rattle.gate.specs.declared.Verdict.{Verdict}
 use Rattle.gate.specs.Gate.{verdict_of}
 
 -- ---- a file

@@ -4,7 +4,6 @@ use Prim.Native.Nat.{ℕ, ◌≤◌, ◌<◌}
 use mathlib.Core.Path.{◌≡◌, refl, ap}
 use mathlib.Core.List.{List}
 use borrow.Author.Tests.{lt-ltb, le-ltb}
-use lib.Dec.{eqb, ltb}
 use Rattle.parts.specs.Files.{File}
 use Rattle.mark_numbers.specs.Marks.{Marks}
 use Rattle.bundle_layout.specs.Change.{files_after}

@@ -1,10 +1,10 @@
 -- The text of a loop put into an output piece by piece, and that what is told is what is shown.
 -- Assumes nothing.
-use Prim.Native.Nat.{ℕ, ◌+◌, ◌-◌, ◌≤◌, ◌<◌}
-use mathlib.Core.Path.{◌≡◌, refl, sym, ap, ◌∙◌}
+use Prim.Native.Nat.{ℕ, ◌+◌, ◌-◌, ◌<◌}
+use mathlib.Core.Path.{◌≡◌, refl, ap, ◌∙◌}
 use mathlib.Core.Bool.{Bool, true, false, cond}
-use mathlib.Core.List.{List, [], ◌++◌, append-nil}
-use lib.ListN.{length, get_or, take, drop}
+use mathlib.Core.List.{List, [], append-nil}
+use lib.ListN.{length, get_or, take}
 use Rattle.json_bytes.specs.Ascii.{codes}
 use Rattle.parts.specs.Part.{part_of}
 use Rattle.parts.specs.Files.{bytes_of}

@@ -2,14 +2,12 @@
 -- Assumes nothing.
 use Prim.Native.Nat.{ℕ, suc, ◌+◌, ◌≤◌, ◌<◌}
 use mathlib.Core.Path.{◌≡◌, refl, sym, ap, ◌∙◌}
-use mathlib.Core.Bool.{Bool, true, false, cond, not, true≢false}
-use mathlib.Core.List.{List, [], ◌∷◌, ◌++◌}
+use mathlib.Core.Bool.{Bool, true, false, cond, true≢false}
+use mathlib.Core.List.{List, [], ◌∷◌}
 use native.Mathlib.Numerals.{add-one}
 use native.Mathlib.Omega.{arith}
 use borrow.Author.Count.{below_more}
 use borrow.Author.Tests.{eq-eqb, ne_eqb}
-use denote.Enum.Declared.{tag_of}
-use types.Run.{OneOf, miss}
 use lib.ListN.{length, get_or, set, drop, drop_of_length-le}
 use lib.Seq.{drop-cons, get_or-set_same, get_or-set_other, ext_get_or}
 use lib.Dec.{eqb}
@@ -24,7 +22,6 @@ use Rattle.mark_numbers.specs.declared.Mark.{Mark}
 use Rattle.mark_numbers.proofs.Laws.{list_at, list_length}
 use Rattle.reason_answer.specs.declared.Reason.{Reason}
 use Rattle.reason_answer.specs.declared.Reason.TheVariants.{Refused, Holds, NotJudged, OwnMark, Broken, Missing}
-use Rattle.reason_answer.specs.contracts.Reason.{the_type}
 use Rattle.gate_calls.specs.Reasons.{reason_of}
 use Rattle.gate_marks.specs.Gate.{Gate}
 use Rattle.gate_lists.specs.declared.Which.{Which}
@@ -36,15 +33,12 @@ use Rattle.reason_text.specs.Sentence.{file_slots}
 use Rattle.reason_text.specs.Text.{keeper_of, keeper_at, keepers_of, kept_line, kept_lines}
 
 -- ---- which file keeps a mark
--- an answer of any other variant, told by its number, names none
-abbrev others : List ℕ
-others = 0 ∷ 1 ∷ 3 ∷ 4 ∷ 5 ∷ []
-
-pub no-keeper : (none : ℕ) (told : Reason) → OneOf others (tag_of the_type told) → none ≡ keeper_of none told
+-- an answer of any other variant names none
+pub no-keeper : (none : ℕ) (told : Reason) → ((file : ℕ) → told ≡ NotJudged file → ⊥) → none ≡ keeper_of none told
 unfolding keeper_of
 no-keeper none (Refused refusal) k = refl
 no-keeper none Holds k = refl
-no-keeper none (NotJudged file) k = absurd (miss others 2 tt k)
+no-keeper none (NotJudged file) k = absurd (k file refl)
 no-keeper none (OwnMark kind place companion) k = refl
 no-keeper none (Broken shown) k = refl
 no-keeper none (Missing shown searched) k = refl
@@ -124,21 +118,21 @@ module _ (which : Which) (s : List ℕ) (marks : Marks) (o : Output) (grouped : 
   abbrev kept : List ℕ → List ℕ
   kept keepers = kept_lines which keepers (gate_called which).files
 
-  pub groups_none : not grouped ≡ true → o ≡ put o (cond grouped (kept (keepers_of (gate_called which) s marks)) [])
+  pub groups_none : grouped ≡ false → o ≡ put o (cond grouped (kept (keepers_of (gate_called which) s marks)) [])
   unfolding put
   groups_none e = go grouped e
     where
-      go : (t : Bool) → not t ≡ true → o ≡ put o (cond t (kept (keepers_of (gate_called which) s marks)) [])
-      go true e = absurd (true≢false (sym e))
+      go : (t : Bool) → t ≡ false → o ≡ put o (cond t (kept (keepers_of (gate_called which) s marks)) [])
+      go true e = absurd (true≢false e)
       go false e = refl
 
-  pub groups-put : not grouped ≡ false → {keepers : List ℕ} {n files : ℕ} → keepers ≡ list_of (keeper_at (gate_called which) s marks) n → n ≡ length marks.kinds → files ≡ (gate_called which).files → {p : Output} → p ≡ put o (kept_lines which keepers files) → p ≡ put o (cond grouped (kept (keepers_of (gate_called which) s marks)) [])
+  pub groups-put : grouped ≡ true → {keepers : List ℕ} {n files : ℕ} → keepers ≡ list_of (keeper_at (gate_called which) s marks) n → n ≡ length marks.kinds → files ≡ (gate_called which).files → {p : Output} → p ≡ put o (kept_lines which keepers files) → p ≡ put o (cond grouped (kept (keepers_of (gate_called which) s marks)) [])
   unfolding keepers_of
   groups-put e {keepers} f l files-are {p} h = go grouped e
     where
       whole : p ≡ put o (kept (list_of (keeper_at (gate_called which) s marks) (length marks.kinds)))
       whole = h ∙ ap (λ n. put o (kept_lines which keepers n)) files-are ∙ ap (λ k. put o (kept k)) (f ∙ ap (list_of (keeper_at (gate_called which) s marks)) l)
 
-      go : (t : Bool) → not t ≡ false → p ≡ put o (cond t (kept (list_of (keeper_at (gate_called which) s marks) (length marks.kinds))) [])
+      go : (t : Bool) → t ≡ true → p ≡ put o (cond t (kept (list_of (keeper_at (gate_called which) s marks) (length marks.kinds))) [])
       go true e = whole
-      go false e = absurd (true≢false e)
+      go false e = absurd (true≢false (sym e))

@@ -1,5 +1,5 @@
 -- `gate_listed::fill_entries`: behind i turns the first i places of the list hold their entries, and the rest and the numbers are as before.
-use Rattle.std.proofs.Common.{◌≡◌, ◌×◌, ◌+◌, ◌*◌, ◌-◌, ◌≤◌}
+use Rattle.std.proofs.Common.{◌≡◌, ◌+◌, ◌*◌, ◌-◌, ◌≤◌}
 use Rattle.gate_listed.proofs.Filled.{filled}
 use Rattle.gate_listed.proofs.fill_entries.Given as goal
 

@@ -1,0 +1,8 @@
+-- `desks_probe::make_front` is safe and ends: the front is lent only where the output is long enough.
+use mathlib.Core.Path.{sym}
+use native.Mathlib.Omega.{arith}
+use lib.Seq.{length-take-le}
+use Rattle.desks_probe.proofs.make_front.Goals as goal
+
+pub slice_bounds-make-end-2 : goal.slice_bounds-make-end-2
+slice_bounds-make-end-2 g c = sym (length-take-le _ _ (omega arith))

@@ -1,0 +1,20 @@
+-- `gates_probe::main` is safe and ends. The lengths of its arrays are known by a law, not counted.
+use mathlib.Core.Path.{sym}
+use Prim.Native.Nat.{ℕ}
+use lib.ListN.{length-replicate}
+use Rattle.gates_probe.proofs.main.Goals as goal
+
+pub slice_bounds-answer_all-end : goal.slice_bounds-answer_all-end
+slice_bounds-answer_all-end c = sym (length-replicate {A = ℕ} 1048577 0)
+
+pub slice_bounds-answer_all-end-2 : goal.slice_bounds-answer_all-end-2
+slice_bounds-answer_all-end-2 c = sym (length-replicate {A = ℕ} 1048577 0)
+
+pub slice_bounds-answer_all-end-3 : goal.slice_bounds-answer_all-end-3
+slice_bounds-answer_all-end-3 c = sym (length-replicate {A = ℕ} 1048577 0)
+
+pub slice_bounds-answer_all-end-4 : goal.slice_bounds-answer_all-end-4
+slice_bounds-answer_all-end-4 c = sym (length-replicate {A = ℕ} 1164 0)
+
+pub slice_bounds-answer_all-end-5 : goal.slice_bounds-answer_all-end-5
+slice_bounds-answer_all-end-5 c = sym (length-replicate {A = ℕ} 794702 0xA5A5A5A5)
