@@ -129,7 +129,7 @@ module _ (fields : List Field) (s : Bytes) (base at : ℕ) (cells : List ℕ) (r
           go (yes e) =
               rw e
               (rest p.field ∙ of-absent fields p.field (number p.field) _ ns absent ∙ told ∙ rw (of_field, eq-eqb _ _ p.index))
-          go (no n) = rest k ∙ rw (kept k n, of_field, ne_eqb _ _ (other-index k n))
+          go (no n) = rest k ∙ rw (kept k n) (rw (of_field, ne_eqb _ _ (other-index k n)))
 
       all-starts : ((k : ℕ) → start_cell final base k ≡ of_field fields k (start_in s) (start_cell then base k) ns) → (k : ℕ) → start_cell final base k ≡ of_field fields k (start_in s) (start_cell cells base k) (one ∷ ns)
       all-starts = all-cells start_cell (λ k. start_in s) (told-start ∙ sym p.starts) kept-start
