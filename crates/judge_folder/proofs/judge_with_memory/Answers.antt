@@ -1,0 +1,14 @@
+-- `judge_folder::judge_with_memory` is safe and ends. The lengths of its large arrays are known by a law, not counted.
+use Prim.Native.Nat.{ℕ}
+use mathlib.Core.Path.{sym}
+use lib.ListN.{length-replicate}
+use Rattle.judge_folder.proofs.judge_with_memory.Goals as goal
+
+pub slice_bounds-judge_folder-end : goal.slice_bounds-judge_folder-end
+slice_bounds-judge_folder-end g c = sym (length-replicate {A = ℕ} 1048577 0)
+
+pub slice_bounds-judge_folder-end-2 : goal.slice_bounds-judge_folder-end-2
+slice_bounds-judge_folder-end-2 g c = sym (length-replicate {A = ℕ} 1048577 0)
+
+pub slice_bounds-judge_folder-end-3 : goal.slice_bounds-judge_folder-end-3
+slice_bounds-judge_folder-end-3 g c = sym (length-replicate {A = ℕ} 1048577 0)

@@ -1,0 +1,10 @@
+-- `listed_probe::answer_all` is safe and ends: each turn leaves one less, and the buffer keeps its length.
+use mathlib.Core.Path.{◌≡◌}
+use lib.ListN.{length}
+use Rattle.listed_probe.proofs.answer_all.Given as goal
+
+abbrev pub invariant-loop-turns : goal.invariant-loop-turns
+invariant-loop-turns g l = length l.buf ≡ length l.initial.buf
+
+abbrev pub decreases-loop-turns : goal.decreases-loop-turns
+decreases-loop-turns g l = l.turns
