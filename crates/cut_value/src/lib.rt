@@ -1,5 +1,5 @@
 // Where a long value is cut for printing.
-#![tactic(auto)]
+#![tactic(auto, unfolding(crate::specs::Cut::cut_within, crate::specs::Cut::cut_length, text_place::specs::Place::is_character))]
 
 ghost use Rattle.std.specs.Prelude.{◌≡◌};
 ghost use Rattle.json_bytes.specs.Reads.{byte_at};
@@ -20,15 +20,14 @@ fn cut_within(value: &[u8]) -> usize
     ensures { result ≡ cut_within value.now }
 {
     if starts_at(value, 80) {
-        return 80;
+        80
+    } else if starts_at(value, 79) {
+        79
+    } else if starts_at(value, 78) {
+        78
+    } else {
+        77
     }
-    if starts_at(value, 79) {
-        return 79;
-    }
-    if starts_at(value, 78) {
-        return 78;
-    }
-    77
 }
 
 // How many bytes of a value are printed: all up to 80, and of a longer one no character in part.
@@ -36,7 +35,8 @@ pub fn cut_length(value: &[u8]) -> usize
     ensures { result ≡ cut_length value.now }
 {
     if value.len() <= 80 {
-        return value.len();
+        value.len()
+    } else {
+        cut_within(value)
     }
-    cut_within(value)
 }

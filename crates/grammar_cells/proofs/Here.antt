@@ -1,5 +1,6 @@
 -- What a reader reads whole is of the grammar where it stands: spaces, strings, and values with whether they are null.
 -- Assumes nothing.
+use Rattle.std.specs.Prelude.{Ok, Err}
 use Prim.Native.Nat.{ℕ, ◌+◌, ◌≤◌}
 use mathlib.Core.Path.{◌≡◌, refl}
 use mathlib.Core.Bool.{Bool, true, false, ◌&&◌, ◌||◌}
@@ -9,9 +10,7 @@ use borrow.Author.Tests.{eqb-true, ne_eqb}
 use lib.Dec.{ltb, eqb}
 use lib.ListN.{length, drop}
 use lib.Seq.{slice}
-use Rattle.json_bytes.specs.Reads.{byte_at, within, spaces_end, literal_at}
-use Rattle.json_bytes.specs.declared.Reading.{Reading}
-use Rattle.json_bytes.specs.declared.Reading.TheVariants.{Whole, Fault}
+use Rattle.json_bytes.specs.Reads.{byte_at, within, spaces_end, literal_at, Reading}
 use Rattle.json_bytes.proofs.Laws.{by-test}
 use Rattle.json_bytes.proofs.Bounds.{Within, literal-within}
 use Rattle.json_chars.specs.Chars.{chars_at}
@@ -24,9 +23,8 @@ use Rattle.json_number.specs.declared.Value.TheVariants.{Fits, Beyond}
 use Rattle.json_number.specs.declared.Integer.{Integer}
 use Rattle.json_number.specs.declared.Integer.TheVariants.{Is, Fraction, TooLarge}
 use Rattle.json_number.proofs.Laws.{whole_in}
-use Rattle.json_date.specs.Date.{date_of}
-use Rattle.json_date.specs.declared.Date.{Date}
-use Rattle.json_date.specs.declared.Date.TheVariants.{Day, NoDate}
+use Rattle.json_date.specs.Date.{Date, date_of}
+use Rattle.std.specs.Prelude.{Some, None}
 use Rattle.table_value.specs.Value.{text_type, text_held, date_held, string_in, string_value, decimal_held, integer_held, number_in, number_value, literal_in, literal_value, starts_number, opens, value_at}
 use Rattle.table_value.specs.declared.ValueRead.{ValueRead}
 use Rattle.table_value.specs.declared.ValueRead.TheVariants.{Held, Null, Bad}
@@ -53,21 +51,21 @@ spaces-here s i l =
     (rw (append-nil (slice i (spaces_end s i) s), w.2) at w.1)
 
 module _ (s : Bytes) (at : ℕ) (l : at ≤ length s) where
-  string-in : {end : ℕ} → text_read_at s at ≡ Whole end → AString (drop at s) (drop end s)
+  string-in : {end : ℕ} → text_read_at s at ≡ Ok end → AString (drop at s) (drop end s)
   string-in {end} e =
-      let w : Within s at (Whole end) = rw e at (text-within s at l) in
+      let w : Within s at (Ok end) = rw e at (text-within s at l) in
       here AString (λ l r h x. (h.0, string-more h.1 x)) s at end (omega (arith, w.0)) w.1 (string-whole s at l e).is_one
 
   -- a string, and the characters that it is decoded to
-  pub string-here : {end : ℕ} → text_read_at s at ≡ Whole end → (cs : List ℕ) × String (drop at s) cs (drop end s) × (chars_at s at ≡ meant cs)
+  pub string-here : {end : ℕ} → text_read_at s at ≡ Ok end → (cs : List ℕ) × String (drop at s) cs (drop end s) × (chars_at s at ≡ meant cs)
   string-here e = ((string-in e).0, (string-in e).1, string-means s at (string-in e).1)
 
-  literal-here : {end : ℕ} → literal_at s at ≡ Whole end → Literal (drop at s) (drop end s)
+  literal-here : {end : ℕ} → literal_at s at ≡ Ok end → Literal (drop at s) (drop end s)
   literal-here {end} e =
-      let w : Within s at (Whole end) = rw e at (literal-within s at l) in
+      let w : Within s at (Ok end) = rw e at (literal-within s at l) in
       here Literal (λ l r h. literal-more h) s at end (omega (arith, w.0)) w.1 (literal-whole s at l e).is_one
 
-  number-here : {end : ℕ} → (number_at s at).reading ≡ Whole end → Number (drop at s) (drop end s)
+  number-here : {end : ℕ} → (number_at s at).reading ≡ Ok end → Number (drop at s) (drop end s)
   number-here {end} e =
       here Number (λ l r h. number_more h) s at end (omega (arith, (whole_in s at e).0)) (whole_in s at e).1 (number-whole s at l e).is_one
 
@@ -97,8 +95,8 @@ module _ (s : Bytes) (at ty : ℕ) where
 
     date-is : eqb (byte_at s at) 110 ≡ false → within 4 6 ty ≡ false → (d : Date) → Judged (date_held at end d)
     unfolding date_held
-    date-is n m (Day year month day) = (v, no-string end n m)
-    date-is n m NoDate = tt
+    date-is n m (Some day) = (v, no-string end n m)
+    date-is n m None = tt
 
     string-is : eqb (byte_at s at) 110 ≡ false → (w : Wrong) → Judged (string_in s at ty end w)
     unfolding string_in
@@ -131,18 +129,18 @@ module _ (s : Bytes) (at ty : ℕ) where
         (λ n. by-test Judged (eqb ty 0) _ _ (λ e. (v, no-string end n (rw (eqb-true ty 0 e)))) (λ _. tt))
 
 module _ (s : Bytes) (at ty : ℕ) (l : at ≤ length s) where
-  string-value : eqb (byte_at s at) 110 ≡ false → (w : Wrong) (r : Reading) → text_read_at s at ≡ r → ValueIs s at ty (elim r [ Whole end ↦ string_in s at ty end w | Fault kind place ↦ Bad kind place ])
-  string-value n w (Whole end) e = string-is s at ty end (Value.string (string-here s at l e).1) n w
-  string-value n w (Fault kind place) e = tt
+  string-value : eqb (byte_at s at) 110 ≡ false → (w : Wrong) (r : Reading) → text_read_at s at ≡ r → ValueIs s at ty (elim r [ Ok end ↦ string_in s at ty end w | Err e ↦ Bad e.kind e.place ])
+  string-value n w (Ok end) e = string-is s at ty end (Value.string (string-here s at l e).1) n w
+  string-value n w (Err x) e = tt
 
-  number-value : eqb (byte_at s at) 110 ≡ false → (x : NumberValue) (r : Reading) → (number_at s at).reading ≡ r → ValueIs s at ty (elim r [ Whole end ↦ number_in at ty end x | Fault kind place ↦ Bad kind place ])
-  number-value n x (Whole end) e = number_is s at ty end (Value.number (number-here s at l e)) n x
-  number-value n x (Fault kind place) e = tt
+  number-value : eqb (byte_at s at) 110 ≡ false → (x : NumberValue) (r : Reading) → (number_at s at).reading ≡ r → ValueIs s at ty (elim r [ Ok end ↦ number_in at ty end x | Err e ↦ Bad e.kind e.place ])
+  number-value n x (Ok end) e = number_is s at ty end (Value.number (number-here s at l e)) n x
+  number-value n x (Err q) e = tt
 
   literal-value : (r : Reading) → literal_at s at ≡ r → ValueIs s at ty (literal_value s at ty r)
   unfolding literal_value
-  literal-value (Whole end) e = literal-is s at ty end (Value.literal (literal-here s at l e))
-  literal-value (Fault kind place) e = tt
+  literal-value (Ok end) e = literal-is s at ty end (Value.literal (literal-here s at l e))
+  literal-value (Err x) e = tt
 
   not_null : (b : ℕ) → starts_number b ≡ true → eqb b 110 ≡ false
   unfolding starts_number within

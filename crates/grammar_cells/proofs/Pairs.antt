@@ -1,6 +1,7 @@
 -- A name and its value, read whole, are a member of the grammar, and the cells of the field that it names say where the
 -- value stands.
 -- Assumes nothing.
+use Rattle.std.specs.Prelude.{Ok, Err}
 use Prim.Native.Nat.{ℕ, ◌+◌, ◌≤◌, ◌<◌}
 use mathlib.Core.Path.{◌≡◌, refl, sym, ap, subst}
 use mathlib.Core.Bool.{cond}
@@ -11,9 +12,7 @@ use borrow.Author.Tests.{eqb-true, ltb-true, ltb-false}
 use lib.Dec.{ltb, eqb}
 use lib.ListN.{length, drop, length-drop}
 use lib.Seq.{get_or-drop}
-use Rattle.json_bytes.specs.Reads.{byte_at, spaces_end}
-use Rattle.json_bytes.specs.declared.Reading.{Reading}
-use Rattle.json_bytes.specs.declared.Reading.TheVariants.{Whole, Fault}
+use Rattle.json_bytes.specs.Reads.{byte_at, spaces_end, Reading, fault_at}
 use Rattle.json_bytes.proofs.Laws.{by-test, inside}
 use Rattle.json_bytes.proofs.Bounds.{Within, spaces-within}
 use Rattle.json_chars.specs.Chars.{chars_at}
@@ -24,9 +23,7 @@ use Rattle.table_value.specs.Value.{value_at}
 use Rattle.table_value.specs.declared.ValueRead.{ValueRead}
 use Rattle.table_value.specs.declared.ValueRead.TheVariants.{Held, Null, Bad}
 use Rattle.table_value.proofs.Bounds.{ValueIn, value_in}
-use Rattle.table_name.specs.Name.{index_of, named_at, name_at, colon_at}
-use Rattle.table_name.specs.declared.NameRead.{NameRead}
-use Rattle.table_name.specs.declared.NameRead.TheVariants.{Known, Unknown}
+use Rattle.table_name.specs.Name.{index_of, named_at, name_at, colon_at, NameRead}
 use Rattle.table_record.specs.Record.{start_cell, stored, Filled, type_of, stored_value, after_colon, is_read, after_name, pair_at}
 use Rattle.grammar.specs.Grammar.{Bytes, Spaces, String, Value, Member, meant}
 use Rattle.grammar_machine.proofs.Places.{drop-byte}
@@ -57,7 +54,7 @@ pub record PairIs (fields : List Field) (s : Bytes) (at : ℕ) (cells : List ℕ
   pub told : then ≡ stored cells base field start last
 
 -- no fault is whole
-pub never : {A : Type 0} {kind place end : ℕ} → Fault kind place ≡ Whole end → A
+pub never : {A : Type 0} {kind place end : ℕ} → fault_at kind place ≡ Ok end → A
 never e = absurd (let z : ◌≡◌ {A = ℕ} 0 1 = cc in omega arith)
 
 module _ (fields : List Field) (s : Bytes) (at : ℕ) (l : at ≤ length s) where
@@ -70,21 +67,21 @@ module _ (fields : List Field) (s : Bytes) (at : ℕ) (l : at ≤ length s) wher
     pub inside : end ≤ length s
 
   abbrev Naming : NameRead → Type 0
-  Naming (Known k end) = NameIs k end
-  Naming (Unknown kind place) = Unit {0}
+  Naming (Ok n) = NameIs n.index n.end
+  Naming (Err e) = Unit {0}
 
-  named-is : (end : ℕ) → text_read_at s at ≡ Whole end → Naming (named_at fields s at end)
+  named-is : (end : ℕ) → text_read_at s at ≡ Ok end → Naming (named_at fields s at end)
   unfolding named_at
   named-is end e =
       let h = string-here s at l e in
-      let w : Within s at (Whole end) = rw e at (text-within s at l) in
+      let w : Within s at (Ok end) = rw e at (text-within s at l) in
       by-test Naming (ltb (index_of (chars_at s at) fields) (length fields)) _ _
       (λ t. record { codes = h.0; string = h.1; index = ap (λ (cs : List ℕ). index_of cs fields) (sym h.2); known = ltb-true _ _ t; inside = w.1 })
       (λ _. tt)
 
-  name_of : (r : Reading) → text_read_at s at ≡ r → Naming (elim r [ Whole end ↦ named_at fields s at end | Fault kind place ↦ Unknown kind place ])
-  name_of (Whole end) e = named-is end e
-  name_of (Fault kind place) e = tt
+  name_of : (r : Reading) → text_read_at s at ≡ r → Naming (elim r [ Ok end ↦ named_at fields s at end | Err e ↦ Err e ])
+  name_of (Ok end) e = named-is end e
+  name_of (Err x) e = tt
 
   name-is : Naming (name_at fields s at)
   unfolding name_at
@@ -99,8 +96,8 @@ module _ (fields : List Field) (s : Bytes) (at : ℕ) (l : at ≤ length s) wher
     pub inside : start ≤ length s
 
   abbrev Colon : ℕ → Reading → Type 0
-  Colon end (Whole start) = ColonIs end start
-  Colon end (Fault kind place) = Unit {0}
+  Colon end (Ok start) = ColonIs end start
+  Colon end (Err e) = Unit {0}
 
   colon-is : (end : ℕ) → end ≤ length s → Colon end (colon_at s end)
   unfolding colon_at
@@ -122,7 +119,7 @@ module _ (fields : List Field) (s : Bytes) (at : ℕ) (l : at ≤ length s) wher
   module _ (cells : List ℕ) (base : ℕ) where
     -- ---- The value
     abbrev Pairing : Filled → Type 0
-    Pairing f = (end : ℕ) → f.outcome ≡ Whole end → PairIs fields s at cells base end f.cells
+    Pairing f = (end : ℕ) → f.outcome ≡ Ok end → PairIs fields s at cells base end f.cells
 
     module _ (k e : ℕ) (name : NameIs k e) (unread : start_cell cells base k ≡ 0) where
       module _ (start : ℕ) (colon : ColonIs e start) where
@@ -156,17 +153,17 @@ module _ (fields : List Field) (s : Bytes) (at : ℕ) (l : at ≤ length s) wher
 
       colon-of : (r : Reading) → Colon e r → Pairing (after_colon fields s cells base k r)
       unfolding after_colon
-      colon-of (Whole start) c =
+      colon-of (Ok start) c =
           value_of start c (value_at s start (type_of fields k)) (value_in s start c.inside (type_of fields k)) (value-is s start (type_of fields k) c.inside)
-      colon-of (Fault kind place) c = λ stop q. never q
+      colon-of (Err e) c = λ stop q. never q
 
     after-name : (n : NameRead) → Naming n → Pairing (after_name fields s at cells base n)
     unfolding after_name is_read
-    after-name (Known k end) h =
-        by-test Pairing (ltb 0 (start_cell cells base k)) _ _
+    after-name (Ok n) h =
+        by-test Pairing (ltb 0 (start_cell cells base n.index)) _ _
         (λ _ stop q. never q)
-        (λ t. colon-of k end h (omega (arith, ltb-false 0 (start_cell cells base k) t)) (colon_at s end) (colon-is end h.inside))
-    after-name (Unknown kind place) h = λ stop q. never q
+        (λ t. colon-of n.index n.end h (omega (arith, ltb-false 0 (start_cell cells base n.index) t)) (colon_at s n.end) (colon-is n.end h.inside))
+    after-name (Err e) h = λ stop q. never q
 
     pub pair_is : Pairing (pair_at fields s at cells base)
     unfolding pair_at

@@ -1,5 +1,6 @@
 -- A record, read whole, is an object of the grammar, and its cells are those of the object's members.
 -- Assumes nothing.
+use Rattle.std.specs.Prelude.{Ok, Err}
 use Prim.Native.Nat.{ℕ, zero, suc, ◌+◌, ◌*◌, ◌≤◌, ◌<◌}
 use mathlib.Core.Path.{◌≡◌, refl, sym, ap, ◌∙◌}
 use mathlib.Core.Logic.{◌≢◌}
@@ -9,9 +10,7 @@ use native.Mathlib.Omega.{arith}
 use borrow.Author.Tests.{eqb-true, eq-eqb, ne_eqb}
 use lib.Dec.{ltb, eqb}
 use lib.ListN.{length, drop}
-use Rattle.json_bytes.specs.Reads.{byte_at, spaces_end}
-use Rattle.json_bytes.specs.declared.Reading.{Reading}
-use Rattle.json_bytes.specs.declared.Reading.TheVariants.{Whole, Fault}
+use Rattle.json_bytes.specs.Reads.{byte_at, spaces_end, Reading, fault_at}
 use Rattle.json_bytes.proofs.Laws.{by-test, inside}
 use Rattle.json_bytes.proofs.Bounds.{Within, spaces-within}
 use Rattle.table_rows.specs.Rows.{Field}
@@ -169,33 +168,33 @@ module _ (fields : List Field) (s : Bytes) (base at : ℕ) (cells : List ℕ) (r
 
 -- ---- As the reader goes
 -- the closing brace is behind the last member
-pub closed_is : (fields : List Field) (cells : List ℕ) (base last stop : ℕ) → record_closed_at fields cells base last ≡ Whole stop → last + 1 ≡ stop
+pub closed_is : (fields : List Field) (cells : List ℕ) (base last stop : ℕ) → record_closed_at fields cells base last ≡ Ok stop → last + 1 ≡ stop
 unfolding record_closed_at
 closed_is fields cells base last stop =
-    by-test (λ (r : Reading). r ≡ Whole stop → last + 1 ≡ stop) (is_missing fields cells base 0) _ _ (λ _ q. never q) (λ _ q. cc)
+    by-test (λ (r : Reading). r ≡ Ok stop → last + 1 ≡ stop) (is_missing fields cells base 0) _ _ (λ _ q. never q) (λ _ q. cc)
 
 module _ (fields : List Field) (s : Bytes) (base : ℕ) where
   abbrev Reading-is : ℕ → List ℕ → Filled → Type 0
-  Reading-is at cells f = (stop : ℕ) → f.outcome ≡ Whole stop → MembersIs fields s base at cells stop f.cells
+  Reading-is at cells f = (stop : ℕ) → f.outcome ≡ Ok stop → MembersIs fields s base at cells stop f.cells
 
   module _ (at : ℕ) (cells : List ℕ) (room : base + 2 * length fields ≤ length cells) where
-    after-pair : (n end : ℕ) (then : List ℕ) → PairIs fields s at cells base end then → ((next : ℕ) → next ≤ length s → Reading-is next then (pairs_from n fields s next then base)) → (x : Next) → Following s end 0x7D x → Reading-is at cells (elim x [ More next ↦ pairs_from n fields s next then base | Ends last ↦ cells_filled then (record_closed_at fields then base last) | Neither place ↦ cells_filled then (Fault 11 place) ])
+    after-pair : (n end : ℕ) (then : List ℕ) → PairIs fields s at cells base end then → ((next : ℕ) → next ≤ length s → Reading-is next then (pairs_from n fields s next then base)) → (x : Next) → Following s end 0x7D x → Reading-is at cells (elim x [ More next ↦ pairs_from n fields s next then base | Ends last ↦ cells_filled then (record_closed_at fields then base last) | Neither place ↦ cells_filled then (fault_at 11 place) ])
     after-pair n end then p rest (More next) h = λ stop q. more-members fields s base at cells room end then p next stop _ h (rest next h.inside stop q)
     after-pair n end then p rest (Ends last) h = λ stop q. rw (closed_is fields then base last stop q) at (last-member fields s base at cells room end then p last h.0)
     after-pair n end then p rest (Neither place) h = λ stop q. never q
 
-    pair_turn : (n : ℕ) (then : List ℕ) (r : Reading) → Within s at r → ((end : ℕ) → r ≡ Whole end → PairIs fields s at cells base end then) → ((next : ℕ) → next ≤ length s → Reading-is next then (pairs_from n fields s next then base)) → Reading-is at cells (elim r [
-      | Whole end ↦
+    pair_turn : (n : ℕ) (then : List ℕ) (r : Reading) → Within s at r → ((end : ℕ) → r ≡ Ok end → PairIs fields s at cells base end then) → ((next : ℕ) → next ≤ length s → Reading-is next then (pairs_from n fields s next then base)) → Reading-is at cells (elim r [
+      | Ok end ↦
           elim (next_after s end 125) [
             | More next ↦ pairs_from n fields s next then base
             | Ends last ↦ cells_filled then (record_closed_at fields then base last)
-            | Neither place ↦ cells_filled then (Fault 11 place)
+            | Neither place ↦ cells_filled then (fault_at 11 place)
           ]
-      | Fault kind place ↦ cells_filled then (Fault kind place)
+      | Err e ↦ cells_filled then (Err e)
     ])
-    pair_turn n then (Whole end) w p rest =
+    pair_turn n then (Ok end) w p rest =
         after-pair n end then (p end refl) rest (next_after s end 125) (next-is s end 125 w.1 (omega arith))
-    pair_turn n then (Fault kind place) w p rest = λ stop q. never q
+    pair_turn n then (Err e) w p rest = λ stop q. never q
 
   pairs-are : (n at : ℕ) (cells : List ℕ) → at ≤ length s → base + 2 * length fields ≤ length cells → Reading-is at cells (pairs_from n fields s at cells base)
   unfolding pairs_from
@@ -224,7 +223,7 @@ module _ (fields : List Field) (s : Bytes) (base at : ℕ) (cells : List ℕ) (b
   clean = cleared cells base (2 * length fields)
 
   abbrev Recorded : Filled → Type 0
-  Recorded f = (end : ℕ) → f.outcome ≡ Whole end → ObjectIs fields s base (drop at s) end f.cells
+  Recorded f = (end : ℕ) → f.outcome ≡ Ok end → ObjectIs fields s base (drop at s) end f.cells
 
   module _ (room : base + 2 * length fields ≤ length cells) where
     empty-object : (last : ℕ) → Spaces (drop (at + 1) s) (0x7D ∷ drop (last + 1) s) → ObjectIs fields s base (drop at s) (last + 1) clean

@@ -1,5 +1,6 @@
 -- The records of a file that holds are the objects of its JSON text, in order, and its cells are those of their members.
 -- Assumes nothing.
+use Rattle.std.specs.Prelude.{Ok, Err}
 use Prim.Native.Nat.{ℕ, zero, suc, ◌+◌, ◌*◌, ◌≤◌, ◌<◌}
 use mathlib.Core.Path.{◌≡◌, refl, ap, subst, ◌∙◌}
 use mathlib.Core.Bool.{Bool, true, false}
@@ -9,9 +10,7 @@ use native.Mathlib.Omega.{arith}
 use borrow.Author.Tests.{eqb-true, ltb-false}
 use lib.Dec.{ltb, eqb}
 use lib.ListN.{length, get_or, drop, drop_of_length-le}
-use Rattle.json_bytes.specs.Reads.{byte_at, spaces_end}
-use Rattle.json_bytes.specs.declared.Reading.{Reading}
-use Rattle.json_bytes.specs.declared.Reading.TheVariants.{Whole, Fault}
+use Rattle.json_bytes.specs.Reads.{byte_at, spaces_end, Reading}
 use Rattle.json_bytes.proofs.Laws.{by-test, inside}
 use Rattle.table_rows.specs.Rows.{Field}
 use Rattle.table_value.specs.Value.{opens, token_at, not_object_of, not_object_at}
@@ -50,15 +49,15 @@ module _ (fields : List Field) (s : Bytes) where
       (λ t _. (rw (drop_of_length-le s (ltb-false (spaces_end s at) (length s) t)) at (spaces-here s at l), refl))
 
   -- ---- An element
-  not-whole : (t : Reading) (at end : ℕ) → not_object_of at t ≡ Whole end → ⊥
+  not-whole : (t : Reading) (at end : ℕ) → not_object_of at t ≡ Ok end → ⊥
   unfolding not_object_of
-  not-whole (Whole stop) at end = λ q. never q
-  not-whole (Fault kind place) at end = λ q. never q
+  not-whole (Ok stop) at end = λ q. never q
+  not-whole (Err e) at end = λ q. never q
 
-  no-object : (at end : ℕ) → not_object_at s at ≡ Whole end → ⊥
+  no-object : (at end : ℕ) → not_object_at s at ≡ Ok end → ⊥
   unfolding not_object_at
   no-object at end =
-      by-test (λ (r : Reading). r ≡ Whole end → ⊥) (opens (byte_at s at)) _ _ (λ _ q. never q) (λ _. not-whole (token_at s at) at end)
+      by-test (λ (r : Reading). r ≡ Ok end → ⊥) (opens (byte_at s at)) _ _ (λ _ q. never q) (λ _. not-whole (token_at s at) at end)
 
   -- read whole, it is an object, its cells are told, and those before it are kept
   pub record ElementIs (at r : ℕ) (cells : List ℕ) (end : ℕ) (then : List ℕ) : Type 0 where
@@ -66,11 +65,11 @@ module _ (fields : List Field) (s : Bytes) where
     pub row : RowIs fields s then r (object_of object)
     pub kept : (j : ℕ) → j < r * (2 * length fields) → get_or then j 0 ≡ get_or cells j 0
 
-  element-is : (at r : ℕ) (cells : List ℕ) → at ≤ length s → (end : ℕ) → (element_at fields s at cells r).outcome ≡ Whole end → ElementIs at r cells end (element_at fields s at cells r).cells
+  element-is : (at r : ℕ) (cells : List ℕ) → at ≤ length s → (end : ℕ) → (element_at fields s at cells r).outcome ≡ Ok end → ElementIs at r cells end (element_at fields s at cells r).cells
   unfolding element_at
   element-is at r cells l end =
-      by-test (λ (f : Filled). f.outcome ≡ Whole end → ElementIs at r cells end f.cells) (eqb (byte_at s at) 123) _ _
-      (λ e. by-test (λ (f : Filled). f.outcome ≡ Whole end → ElementIs at r cells end f.cells) (ltb r 4096) _ _
+      by-test (λ (f : Filled). f.outcome ≡ Ok end → ElementIs at r cells end f.cells) (eqb (byte_at s at) 123) _ _
+      (λ e. by-test (λ (f : Filled). f.outcome ≡ Ok end → ElementIs at r cells end f.cells) (ltb r 4096) _ _
       (λ _ q.
       let o = record_is fields s (r * (2 * length fields)) at cells (eqb-true _ 123 e) end q in
       record {
@@ -147,18 +146,18 @@ module _ (fields : List Field) (s : Bytes) where
   after-element n at r cells end then e rest (Ends last) h a = λ q. last-element at r cells end then e last h.0 _ (end_is (last + 1) (r + 1) (omega (arith, h.1)) q)
   after-element n at r cells end then e rest (Neither place) h a = λ q. faulty (omega arith) q
 
-  element-turn : (n at r : ℕ) (cells then : List ℕ) (o : Reading) → Answered a_text 0 s After o → ((end : ℕ) → o ≡ Whole end → ElementIs at r cells end then) → ((next : ℕ) → Beside next → Tabled next (r + 1) then (elements_from n fields s next then (r + 1))) → Tabled at r cells (elim o [
-    | Whole end ↦
+  element-turn : (n at r : ℕ) (cells then : List ℕ) (o : Reading) → Answered a_text 0 s After o → ((end : ℕ) → o ≡ Ok end → ElementIs at r cells end then) → ((next : ℕ) → Beside next → Tabled next (r + 1) then (elements_from n fields s next then (r + 1))) → Tabled at r cells (elim o [
+    | Ok end ↦
         elim (next_after s end 93) [
           | More next ↦ elements_from n fields s next then (r + 1)
           | Ends last ↦ table_read then (end_of_file s (last + 1) (r + 1))
           | Neither place ↦ table_read then (fault 11 place 0)
         ]
-    | Fault kind place ↦ table_read then (fault kind place (r + 1))
+    | Err e ↦ table_read then (fault e.kind e.place (r + 1))
   ])
-  element-turn n at r cells then (Whole end) a e rest =
+  element-turn n at r cells then (Ok end) a e rest =
       after-element n at r cells end then (e end refl) rest (next_after s end 93) (next-is s end 93 a.inside (omega arith)) (element-next s fields end a)
-  element-turn n at r cells then (Fault kind place) a e rest = λ q. faulty (told-kind a) q
+  element-turn n at r cells then (Err x) a e rest = λ q. faulty (told-kind a) q
 
   elements-are : (n at r : ℕ) (cells : List ℕ) → Beside at → Tabled at r cells (elements_from n fields s at cells r)
   unfolding elements_from
@@ -184,10 +183,10 @@ module _ (fields : List Field) (s : Bytes) where
   Filed single t = t.read.kind ≡ 0 → (text : Text s) × FileIs single fields s text t
 
   -- ---- What is no object and no array
-  other-is : (single : Bool) (cells : List ℕ) (r : Reading) → Answered a_text 0 s (spaces ∷ []) r → ((end : ℕ) → r ≡ Whole end → ⊥) → Filed single (table_read cells (single_read s r))
+  other-is : (single : Bool) (cells : List ℕ) (r : Reading) → Answered a_text 0 s (spaces ∷ []) r → ((end : ℕ) → r ≡ Ok end → ⊥) → Filed single (table_read cells (single_read s r))
   unfolding single_read
-  other-is single cells (Whole end) a n = absurd (n end refl)
-  other-is single cells (Fault kind place) a n = λ q. faulty (told-kind a) q
+  other-is single cells (Ok end) a n = absurd (n end refl)
+  other-is single cells (Err e) a n = λ q. faulty (told-kind a) q
 
   -- ---- A singleton
   one-row : (then : List ℕ) (end : ℕ) (o : ObjectIs fields s 0 (drop at s) end then) (r : ℕ) → r < 1 → RowIs fields s then r (get_or (object_of o.object ∷ []) r [])
@@ -199,14 +198,14 @@ module _ (fields : List Field) (s : Bytes) where
       }
   one-row then end o (suc r) l = absurd (omega arith)
 
-  object-is : (then : List ℕ) (r : Reading) → Answered a_text 0 s (spaces ∷ []) r → ((end : ℕ) → r ≡ Whole end → ObjectIs fields s 0 (drop at s) end then) → Filed true (table_read then (single_read s r))
+  object-is : (then : List ℕ) (r : Reading) → Answered a_text 0 s (spaces ∷ []) r → ((end : ℕ) → r ≡ Ok end → ObjectIs fields s 0 (drop at s) end then) → Filed true (table_read then (single_read s r))
   unfolding single_read named_records
-  object-is then (Whole end) a o = λ q.
+  object-is then (Ok end) a o = λ q.
       let h = end_is fields s end 1 a.inside q in (
         Text.text before (o end refl).object h.0,
         record { count = h.1; rows = λ r l. one-row then end (o end refl) r (omega (arith, h.1)) },
       )
-  object-is then (Fault kind place) a o = λ q. faulty (told-kind a) q
+  object-is then (Err e) a o = λ q. faulty (told-kind a) q
 
   single-is : (cells : List ℕ) → Filed true (single_at fields s cells at)
   unfolding single_at single_of

@@ -1,5 +1,6 @@
 -- A character of the grammar is read by a step, with its code; only an escape of four digits may be joined with the next.
 -- Assumes nothing.
+use Rattle.std.specs.Prelude.{Ok}
 use Prim.Native.Nat.{ℕ, ◌+◌, ◌*◌, ◌-◌, ◌%◌, ◌≤◌, ◌<◌}
 use mathlib.Core.Path.{◌≡◌, refl, sym, ap, ◌∙◌}
 use mathlib.Core.Logic.{◌≢◌}
@@ -15,7 +16,6 @@ use Rattle.json_bytes.specs.Reads.{byte_at, within}
 use Rattle.json_bytes.proofs.Laws.{within-from, within-to, both_left, both_right}
 use Rattle.json_chars.specs.Step.{second, is_two, is_three, is_four, sequence_of, sequence_at, letter_escape, hex_digit, digit_at, unit_at, unit_of, escaped_at, surrogates_joined, escape_at, step_at}
 use Rattle.json_chars.specs.declared.Step.TheVariants.{Char}
-use Rattle.json_chars.specs.declared.Unit16.TheVariants.{Hex}
 use Rattle.grammar.specs.Grammar
 use Rattle.grammar.specs.Grammar.{Bytes, From, Tail, two, three, four, Sequence, Letter, Character}
 use Rattle.grammar_machine.proofs.Complete.{in-range, outside}
@@ -130,7 +130,7 @@ plain_second a b m n o p h = plain-range a b m n o p ∙ in-range 0x80 0xBF b h
 -- its code is no surrogate, or it is an escape of four digits
 pub data Steps (s : Bytes) (i c : ℕ) (r : Bytes) : Type 0 where
   alone : (next : ℕ) → drop next s ≡ r → step_at s i ≡ Char c next → (From 0xD800 0xDFFF c → ⊥) → escaped_at s i ≡ 0 → Steps s i c r
-  unit : byte_at s i ≡ 92 → drop (i + 6) s ≡ r → step_at s i ≡ surrogates_joined s i (Hex c) → escaped_at s i ≡ c → Steps s i c r
+  unit : byte_at s i ≡ 92 → drop (i + 6) s ≡ r → step_at s i ≡ surrogates_joined s i (Ok c) → escaped_at s i ≡ c → Steps s i c r
 
 pub not-escaped : (s : Bytes) (i : ℕ) → byte_at s i ≢ 92 → escaped_at s i ≡ 0
 unfolding escaped_at
@@ -200,7 +200,7 @@ digit-code s i {b} {v} e h =
     (d, lt-ltb (hex_digit (byte_at s i)) 16 (omega (arith, (hex-code h).1)))
 
 module _ (s : Bytes) where
-  unit-code : (i : ℕ) {a b c d w x y z : ℕ} {r : Bytes} → drop i s ≡ a ∷ b ∷ c ∷ d ∷ r → Grammar.Hex a w → Grammar.Hex b x → Grammar.Hex c y → Grammar.Hex d z → unit_at s i ≡ Hex (w * 0x1000 + x * 0x100 + y * 0x10 + z)
+  unit-code : (i : ℕ) {a b c d w x y z : ℕ} {r : Bytes} → drop i s ≡ a ∷ b ∷ c ∷ d ∷ r → Grammar.Hex a w → Grammar.Hex b x → Grammar.Hex c y → Grammar.Hex d z → unit_at s i ≡ Ok (w * 0x1000 + x * 0x100 + y * 0x10 + z)
   unfolding unit_at
   unit-code i {w = w} {x} {y} {z} e h j k m =
       let p : (digit_at s i ≡ w) × (ltb (digit_at s i) 16 ≡ true) = digit-code s i (first_of s i e) h in

@@ -1,5 +1,6 @@
 -- The characters that a string is decoded to are those that the grammar's string means.
 -- Assumes nothing.
+use Rattle.std.specs.Prelude.{Ok}
 use Prim.Native.Nat.{ℕ, zero, suc, ◌+◌, ◌*◌, ◌-◌, ◌≤◌, ◌<◌}
 use mathlib.Core.Path.{◌≡◌, refl, sym, ap, ◌∙◌}
 use mathlib.Core.Bool.{Bool, true, false, cond, ◌&&◌}
@@ -12,7 +13,6 @@ use Rattle.json_bytes.proofs.Laws.{inside}
 use Rattle.json_chars.specs.Step.{is_pair, escaped_at, surrogates_joined, step_at}
 use Rattle.json_chars.specs.Chars.{chars_from, chars_at}
 use Rattle.json_chars.specs.declared.Step.TheVariants.{Char, Close}
-use Rattle.json_chars.specs.declared.Unit16.TheVariants.{Hex}
 use Rattle.json_chars.proofs.Bounds.{Good, step-good}
 use Rattle.grammar.specs.Grammar
 use Rattle.grammar.specs.Grammar.{Bytes, From, Characters, String, meant}
@@ -64,7 +64,7 @@ module _ (s : Bytes) where
   at-quote {i} e = record { end = i + 1; walk = closes {i = i} (rw (first_of s i e)); left = left-of s i e 1 }
 
   -- an escape of four digits is one character, or half of one
-  module _ (i c : ℕ) (e : step_at s i ≡ surrogates_joined s i (Hex c)) where
+  module _ (i c : ℕ) (e : step_at s i ≡ surrogates_joined s i (Ok c)) where
     unpaired : is_pair c (escaped_at s (i + 6)) ≡ false → step_at s i ≡ Char c (i + 6)
     unfolding surrogates_joined
     unpaired n = e ∙ rw n

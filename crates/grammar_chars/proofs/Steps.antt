@@ -1,5 +1,6 @@
 -- A step inside a string takes a character of the grammar, or its closing quote, or stops where no string goes on.
 -- Assumes nothing.
+use Rattle.std.specs.Prelude.{Ok, Err}
 use Prim.Native.Nat.{ℕ, ◌+◌, ◌≤◌, ◌<◌}
 use mathlib.Core.Path.{◌≡◌, refl, sym, ◌∙◌}
 use mathlib.Core.Logic.{◌⊎◌, inl, inr, ⊎_elim, ◌≢◌}
@@ -11,11 +12,9 @@ use borrow.Author.Tests.{eqb-true, eqb-false, ltb-true, ltb-false, lt-ltb, le-lt
 use lib.Dec.{ltb, eqb}
 use Rattle.json_bytes.specs.Reads.{byte_at, within}
 use Rattle.json_bytes.proofs.Laws.{by-test, within-from, within-to}
-use Rattle.json_chars.specs.Step.{second, is_two, is_three, is_four, sequence_of, sequence_at, letter_escape, hex_digit, digit_at, unit_at, unit_of, escaped_at, is_pair, surrogates_joined, escape_at, step_at}
+use Rattle.json_chars.specs.Step.{second, is_two, is_three, is_four, sequence_of, sequence_at, letter_escape, hex_digit, digit_at, unit_at, unit_of, escaped_at, is_pair, surrogates_joined, escape_at, step_at, Unit16}
 use Rattle.json_chars.specs.declared.Step.{Step}
 use Rattle.json_chars.specs.declared.Step.TheVariants.{Char, Close, Bad}
-use Rattle.json_chars.specs.declared.Unit16.{Unit16}
-use Rattle.json_chars.specs.declared.Unit16.TheVariants.{Hex, NoHex}
 use Rattle.json_chars.proofs.Laws.{pair-low}
 use Rattle.grammar.specs.Grammar.{Bytes, From, Tail}
 use Rattle.grammar_machine.proofs.Machine.{one, tail, characters, escape, hex, Stack, Push, Stuck, row_of, expand}
@@ -129,8 +128,8 @@ no-character s i h e = record { high = h; none = λ c r q. never c r (character-
 -- ---- Escapes
 -- four digits: behind them, or at the first place that holds none
 abbrev UnitRead : Stack → ℕ → Bytes → Stack → ℕ → Unit16 → Type 0
-UnitRead K₀ start s K i (Hex u) = At K₀ start s K (i + 4)
-UnitRead K₀ start s K i (NoHex place) = Stopped K₀ start s place
+UnitRead K₀ start s K i (Ok u) = At K₀ start s K (i + 4)
+UnitRead K₀ start s K i (Err place) = Stopped K₀ start s place
 
 module _ (K₀ : Stack) (start : ℕ) (s : Bytes) where
   -- a hexadecimal digit, as the reader asks for it
@@ -173,13 +172,13 @@ module _ (K₀ : Stack) (start : ℕ) (s : Bytes) where
         (λ n h. absurd (omega arith))
       where
         behind : (u : Unit16) → UnitRead K₀ start s (characters ∷ K) (i + 2) u → 0 < unit_of u → At K₀ start s (characters ∷ K) (i + 6)
-        behind (Hex u) b h = onto (omega arith) b
-        behind (NoHex place) b h = absurd (omega arith)
+        behind (Ok u) b h = onto (omega arith) b
+        behind (Err place) b h = absurd (omega arith)
 
     joined_at : (i : ℕ) (u : Unit16) → UnitRead K₀ start s (characters ∷ K) (i + 2) u → Stepped K₀ start s K i (surrogates_joined s i u)
     unfolding surrogates_joined
-    joined_at i (NoHex place) p = (stopped p, omega arith)
-    joined_at i (Hex u) a =
+    joined_at i (Err place) p = (stopped p, omega arith)
+    joined_at i (Ok u) a =
         let b : At K₀ start s (characters ∷ K) (i + 6) = onto (omega arith) a in
         by-test (Stepped K₀ start s K i) (is_pair u (escaped_at s (i + 6))) _ _
         (λ t. onto (omega arith) (escaped-at (i + 6) b (omega (arith, within-from _ _ (escaped_at s (i + 6)) (pair-low u (escaped_at s (i + 6)) t)))))

@@ -1,5 +1,6 @@
 -- A file along the machine: its records, what stands between them, and its end; and what that says of its mark.
 -- Assumes nothing.
+use Rattle.std.specs.Prelude.{Ok, Err}
 use Prim.Native.Nat.{ℕ, zero, suc, ◌+◌, ◌*◌, ◌<◌}
 use mathlib.Core.Path.{◌≡◌, refl}
 use mathlib.Core.Logic.{◌⊎◌, inl, inr}
@@ -9,9 +10,7 @@ use native.Mathlib.Omega.{arith}
 use borrow.Author.Tests.{eqb-true, ltb-true, ltb-false, ne_eqb}
 use lib.Dec.{ltb, eqb}
 use lib.ListN.{length}
-use Rattle.json_bytes.specs.Reads.{byte_at, within, spaces_end}
-use Rattle.json_bytes.specs.declared.Reading.{Reading}
-use Rattle.json_bytes.specs.declared.Reading.TheVariants.{Whole, Fault}
+use Rattle.json_bytes.specs.Reads.{byte_at, within, spaces_end, Reading}
 use Rattle.json_bytes.proofs.Laws.{by-test, inside}
 use Rattle.json_bytes.proofs.Bounds.{Within}
 use Rattle.table_rows.specs.Rows.{Field}
@@ -56,8 +55,8 @@ module _ (s : Bytes) where
 
   single-read : (r : Reading) → Answered a_text 0 s (spaces ∷ []) r → Marked s (single_read s r)
   unfolding single_read
-  single-read (Whole end) a = end-at end 1 a
-  single-read (Fault kind place) a = inr a
+  single-read (Ok end) a = end-at end 1 a
+  single-read (Err e) a = inr a
 
   module _ (fields : List Field) where
     -- ---- A singleton
@@ -90,17 +89,17 @@ module _ (s : Bytes) where
     after-element n cells end r rest (Neither place) h a = inr a
 
     element-turn : (n : ℕ) (cells : List ℕ) (at r : ℕ) → ((next : ℕ) → at < next → At a_text 0 s (value ∷ After) next → Marked s (elements_from n fields s next cells (r + 1)).read) → (o : Reading) → Within s at o → Answered a_text 0 s After o → Marked s (elim o as (λ _. TableRead) [
-      | Whole end ↦
+      | Ok end ↦
           elim (next_after s end 93) [
             | More next ↦ elements_from n fields s next cells (r + 1)
             | Ends last ↦ table_read cells (end_of_file s (last + 1) (r + 1))
             | Neither place ↦ table_read cells (fault 11 place 0)
           ]
-      | Fault kind place ↦ table_read cells (fault kind place (r + 1))
+      | Err e ↦ table_read cells (fault e.kind e.place (r + 1))
     ]).read
-    element-turn n cells at r rest (Whole end) h a =
+    element-turn n cells at r rest (Ok end) h a =
         after-element n cells end r (λ next l b. rest next (omega (arith, h.0)) b) (next_after s end 93) (next-in s end h.1 93 (omega arith)) (element-next end a)
-    element-turn n cells at r rest (Fault kind place) h a = inr a
+    element-turn n cells at r rest (Err e) h a = inr a
 
     elements-from : (n : ℕ) (cells : List ℕ) (at r : ℕ) → length s < at + n → At a_text 0 s (value ∷ After) at → Marked s (elements_from n fields s at cells r).read
     unfolding elements_from

@@ -1,5 +1,6 @@
 -- A record along the machine: its names, the colon behind each, its values, and what stands between them.
 -- Assumes nothing.
+use Rattle.std.specs.Prelude.{Ok, Err}
 use Prim.Native.Nat.{ℕ, zero, suc, ◌+◌, ◌*◌, ◌≤◌, ◌<◌}
 use mathlib.Core.Path.{◌≡◌, refl}
 use mathlib.Core.Logic.{◌≢◌}
@@ -9,9 +10,7 @@ use native.Mathlib.Omega.{arith}
 use borrow.Author.Tests.{eqb-true, eqb-false, lt-ltb, ne_eqb}
 use lib.Dec.{ltb, eqb}
 use lib.ListN.{length, drop, drop_of_length-le}
-use Rattle.json_bytes.specs.Reads.{byte_at, within, spaces_end}
-use Rattle.json_bytes.specs.declared.Reading.{Reading}
-use Rattle.json_bytes.specs.declared.Reading.TheVariants.{Whole, Fault}
+use Rattle.json_bytes.specs.Reads.{byte_at, within, spaces_end, Reading, fault_at}
 use Rattle.json_bytes.proofs.Laws.{by-test, inside}
 use Rattle.json_bytes.proofs.Bounds.{Within}
 use Rattle.json_chars.specs.Chars.{chars_at}
@@ -20,9 +19,7 @@ use Rattle.table_rows.specs.Rows.{Field}
 use Rattle.table_value.specs.Value.{value_at}
 use Rattle.table_value.specs.declared.ValueRead.{ValueRead}
 use Rattle.table_value.specs.declared.ValueRead.TheVariants.{Held, Null, Bad}
-use Rattle.table_name.specs.Name.{index_of, named_at, name_at, colon_at, first_in, next_after}
-use Rattle.table_name.specs.declared.NameRead.{NameRead}
-use Rattle.table_name.specs.declared.NameRead.TheVariants.{Known, Unknown}
+use Rattle.table_name.specs.Name.{index_of, named_at, name_at, colon_at, first_in, next_after, NameRead}
 use Rattle.table_name.specs.declared.Next.{Next}
 use Rattle.table_name.specs.declared.Next.TheVariants.{More, Ends, Neither}
 use Rattle.table_record.specs.Record.{Filled, cells_filled, type_of, is_read, stored_value, after_colon, after_name, pair_at, is_missing, record_closed_at, cleared, record_has_room, pairs_from, members_of, record_at}
@@ -39,8 +36,8 @@ use Rattle.grammar_files.proofs.Values.{ValueAnswered, value-at}
 module _ (K₀ : Stack) (start : ℕ) (s : Bytes) where
   -- ---- Names
   abbrev NameAnswered : Stack → NameRead → Type 0
-  NameAnswered K (Known k end) = At K₀ start s K end
-  NameAnswered K (Unknown kind place) = Told K₀ start s kind place
+  NameAnswered K (Ok n) = At K₀ start s K n.end
+  NameAnswered K (Err e) = Told K₀ start s e.kind e.place
 
   named-at : (K : Stack) (fields : List Field) (at end : ℕ) → At K₀ start s (just 0x22 ∷ characters ∷ K) at → At K₀ start s K end → NameAnswered K (named_at fields s at end)
   unfolding named_at
@@ -49,9 +46,9 @@ module _ (K₀ : Stack) (start : ℕ) (s : Bytes) where
       (λ _. b)
       (λ _. judged (just 0x22 ∷ characters ∷ K) (omega arith) a)
 
-  name-read : (K : Stack) (fields : List Field) (at : ℕ) → At K₀ start s (just 0x22 ∷ characters ∷ K) at → (r : Reading) → TextRead K₀ start s K r → NameAnswered K (elim r [ Whole end ↦ named_at fields s at end | Fault kind place ↦ Unknown kind place ])
-  name-read K fields at a (Whole end) b = named-at K fields at end a b
-  name-read K fields at a (Fault kind place) b = b.0
+  name-read : (K : Stack) (fields : List Field) (at : ℕ) → At K₀ start s (just 0x22 ∷ characters ∷ K) at → (r : Reading) → TextRead K₀ start s K r → NameAnswered K (elim r [ Ok end ↦ named_at fields s at end | Err e ↦ Err e ])
+  name-read K fields at a (Ok end) b = named-at K fields at end a b
+  name-read K fields at a (Err e) b = b.0
 
   name-at : (K : Stack) (fields : List Field) (at : ℕ) → At K₀ start s (just 0x22 ∷ characters ∷ K) at → NameAnswered K (name_at fields s at)
   unfolding name_at
@@ -118,17 +115,17 @@ module _ (K₀ : Stack) (start : ℕ) (s : Bytes) where
 
     after-colon : (cells : List ℕ) (k : ℕ) (r : Reading) → Answered K₀ start s (value ∷ After) r → Answered K₀ start s After (after_colon fields s cells base k r).outcome
     unfolding after_colon
-    after-colon cells k (Whole at) a =
+    after-colon cells k (Ok at) a =
         stored-value cells k at (value_at s at (type_of fields k)) (value-at K₀ start s After at a (type_of fields k))
-    after-colon cells k (Fault kind place) a = a
+    after-colon cells k (Err e) a = a
 
     after-name : (cells : List ℕ) (at : ℕ) → At K₀ start s (a_member ++ K) at → (n : NameRead) → NameAnswered (member_rest ++ K) n → Answered K₀ start s After (after_name fields s at cells base n).outcome
     unfolding after_name
-    after-name cells at a (Known k end) b =
-        by-test (λ (f : Filled). Answered K₀ start s After f.outcome) (is_read cells base k) _ _
+    after-name cells at a (Ok n) b =
+        by-test (λ (f : Filled). Answered K₀ start s After f.outcome) (is_read cells base n.index) _ _
         (λ _. judged (a_member ++ K) (omega arith) a)
-        (λ _. after-colon cells k (colon_at s end) (colon-at (value ∷ After) end b))
-    after-name cells at a (Unknown kind place) b = b
+        (λ _. after-colon cells n.index (colon_at s n.end) (colon-at (value ∷ After) n.end b))
+    after-name cells at a (Err e) b = b
 
     pair-at : (cells : List ℕ) (at : ℕ) → At K₀ start s (a_member ++ K) at → Answered K₀ start s After (pair_at fields s at cells base).outcome
     unfolding pair_at
@@ -143,7 +140,7 @@ module _ (K₀ : Stack) (start : ℕ) (s : Bytes) where
         (λ _. a.1)
 
     -- ---- The names and values one behind the other
-    after-pair : (n : ℕ) (cells : List ℕ) (end : ℕ) → ((next : ℕ) → end < next → At K₀ start s (a_member ++ K) next → Answered K₀ start s K (pairs_from n fields s next cells base).outcome) → (x : Next) → NextIn s end x → NextAnswered after_member (a_member ++ K) K x → Answered K₀ start s K (elim x as (λ _. Filled) [ More next ↦ pairs_from n fields s next cells base | Ends last ↦ cells_filled cells (record_closed_at fields cells base last) | Neither place ↦ cells_filled cells (Fault 11 place) ]).outcome
+    after-pair : (n : ℕ) (cells : List ℕ) (end : ℕ) → ((next : ℕ) → end < next → At K₀ start s (a_member ++ K) next → Answered K₀ start s K (pairs_from n fields s next cells base).outcome) → (x : Next) → NextIn s end x → NextAnswered after_member (a_member ++ K) K x → Answered K₀ start s K (elim x as (λ _. Filled) [ More next ↦ pairs_from n fields s next cells base | Ends last ↦ cells_filled cells (record_closed_at fields cells base last) | Neither place ↦ cells_filled cells (fault_at 11 place) ]).outcome
     after-pair n cells end rest (More next) h a = rest next h.0 a
     after-pair n cells end rest (Ends last) h a = closed_at after_member cells last a
     after-pair n cells end rest (Neither place) h a = a
@@ -154,17 +151,17 @@ module _ (K₀ : Stack) (start : ℕ) (s : Bytes) where
         next-at after_member a_member K 125 (omega arith) refl refl (λ b n m. rw (row_of, ne_eqb b 125 m, ne_eqb b 44 n)) end a
 
     pair_turn : (n : ℕ) (cells : List ℕ) (at : ℕ) → ((next : ℕ) → at < next → At K₀ start s (a_member ++ K) next → Answered K₀ start s K (pairs_from n fields s next cells base).outcome) → (r : Reading) → Within s at r → Answered K₀ start s After r → Answered K₀ start s K (elim r as (λ _. Filled) [
-      | Whole end ↦
+      | Ok end ↦
           elim (next_after s end 125) [
             | More next ↦ pairs_from n fields s next cells base
             | Ends last ↦ cells_filled cells (record_closed_at fields cells base last)
-            | Neither place ↦ cells_filled cells (Fault 11 place)
+            | Neither place ↦ cells_filled cells (fault_at 11 place)
           ]
-      | Fault kind place ↦ cells_filled cells (Fault kind place)
+      | Err e ↦ cells_filled cells (Err e)
     ]).outcome
-    pair_turn n cells at rest (Whole end) h a =
+    pair_turn n cells at rest (Ok end) h a =
         after-pair n cells end (λ next l b. rest next (omega (arith, h.0)) b) (next_after s end 125) (next-in s end h.1 125 (omega arith)) (member-next end a)
-    pair_turn n cells at rest (Fault kind place) h a = a
+    pair_turn n cells at rest (Err e) h a = a
 
     pairs-from : (n : ℕ) (cells : List ℕ) (at : ℕ) → length s < at + n → At K₀ start s (a_member ++ K) at → Answered K₀ start s K (pairs_from n fields s at cells base).outcome
     unfolding pairs_from

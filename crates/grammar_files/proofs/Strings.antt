@@ -1,5 +1,6 @@
 -- The string reader reads the strings of the grammar, along the machine and by itself.
 -- Assumes nothing.
+use Rattle.std.specs.Prelude.{Ok, Err}
 use Prim.Native.Nat.{ℕ, zero, suc, ◌+◌, ◌≤◌, ◌<◌}
 use mathlib.Core.Path.{◌≡◌, refl, ap, ◌∙◌}
 use mathlib.Core.Logic.{◌⊎◌, inl, inr}
@@ -11,9 +12,7 @@ use borrow.Author.Tests.{eqb-true, eqb-false, eq-eqb}
 use lib.Dec.{ltb, eqb}
 use lib.ListN.{length, drop, length-drop}
 use lib.Seq.{slice}
-use Rattle.json_bytes.specs.Reads.{byte_at}
-use Rattle.json_bytes.specs.declared.Reading.{Reading}
-use Rattle.json_bytes.specs.declared.Reading.TheVariants.{Whole, Fault}
+use Rattle.json_bytes.specs.Reads.{byte_at, Reading, fault_at}
 use Rattle.json_bytes.proofs.Laws.{by-test, inside}
 use Rattle.json_chars.specs.Step.{step_at}
 use Rattle.json_chars.specs.Chars.{chars_at}
@@ -38,11 +37,11 @@ use Rattle.grammar_chars.proofs.Meaning.{Walk, closes, steps, Walked, string-wal
 -- ---- Along the machine
 -- what the reader answers: its faults are 10 and 11
 abbrev pub TextRead : Stack → ℕ → Bytes → Stack → Reading → Type 0
-TextRead K₀ start s K (Whole end) = At K₀ start s K end
-TextRead K₀ start s K (Fault kind place) = Told K₀ start s kind place × (kind ≤ 11)
+TextRead K₀ start s K (Ok end) = At K₀ start s K end
+TextRead K₀ start s K (Err e) = Told K₀ start s e.kind e.place × (e.kind ≤ 11)
 
 module _ (K₀ : Stack) (start : ℕ) (s : Bytes) (K : Stack) where
-  from_step : (f i : ℕ) → ((next : ℕ) → i < next → At K₀ start s (characters ∷ K) next → TextRead K₀ start s K (text_from f s next)) → (t : Step) → Good s i t → Stepped K₀ start s K i t → TextRead K₀ start s K (elim t [ Char code next ↦ text_from f s next | Close ↦ Whole (i + 1) | Bad kind place ↦ Fault kind place ])
+  from_step : (f i : ℕ) → ((next : ℕ) → i < next → At K₀ start s (characters ∷ K) next → TextRead K₀ start s K (text_from f s next)) → (t : Step) → Good s i t → Stepped K₀ start s K i t → TextRead K₀ start s K (elim t [ Char code next ↦ text_from f s next | Close ↦ Ok (i + 1) | Bad kind place ↦ fault_at kind place ])
   from_step f i rest (Char code next) g a = rest next g.0 a
   from_step f i rest Close g a = a
   from_step f i rest (Bad kind place) g a = a
@@ -116,7 +115,7 @@ string-reads =
     behind-quote exactly t = String.quoted t
 
 -- the steps to a closing quote are those of the reader
-text-by : (s : Bytes) {i end : ℕ} {cs : List ℕ} → Walk s i cs end → (f : ℕ) → i ≤ length s → length s < i + f → (text_from f s i ≡ Whole end) × (end ≤ length s)
+text-by : (s : Bytes) {i end : ℕ} {cs : List ℕ} → Walk s i cs end → (f : ℕ) → i ≤ length s → length s < i + f → (text_from f s i ≡ Ok end) × (end ≤ length s)
 unfolding text_from
 text-by s w zero l m = absurd (omega arith)
 text-by s (closes {i = i} e) (suc f) l m =
@@ -124,7 +123,7 @@ text-by s (closes {i = i} e) (suc f) l m =
     (rw (text_from, e), omega (arith, g))
 text-by s (steps {i = i} {c = c} {next = next} {end = end} e w) (suc f) l m =
     let g : Good s i (Char c next) = rw e at (step-good s i l) in
-    let rest : (text_from f s next ≡ Whole end) × (end ≤ length s) = text-by s w f g.1 (omega (arith, g.0)) in
+    let rest : (text_from f s next ≡ Ok end) × (end ≤ length s) = text-by s w f g.1 (omega (arith, g.0)) in
     (rw (text_from, e) rest.0, rest.1)
 
 module _ (s : Bytes) (at : ℕ) (here : at ≤ length s) where
@@ -132,11 +131,11 @@ module _ (s : Bytes) (at : ℕ) (here : at ≤ length s) where
   text-answers = text_at a_string at s [] at (at-start a_string at s here)
 
   -- read whole, it is a string
-  pub string-whole : {end : ℕ} → text_read_at s at ≡ Whole end → Longest (Only AString) s at end
+  pub string-whole : {end : ℕ} → text_read_at s at ≡ Ok end → Longest (Only AString) s at end
   string-whole e = whole-token string-reads s at (rw e at text-answers)
 
   -- a fault is 11, at the first byte with which none goes on; or 10, where no character begins
-  pub string-fault : {kind place : ℕ} → text_read_at s at ≡ Fault kind place → ((kind ≡ 11) × StopsAt (Only AString) s at place) ⊎ ((kind ≡ 10) × BrokenAt (Only AString) s at place)
+  pub string-fault : {kind place : ℕ} → text_read_at s at ≡ fault_at kind place → ((kind ≡ 11) × StopsAt (Only AString) s at place) ⊎ ((kind ≡ 10) × BrokenAt (Only AString) s at place)
   string-fault {kind} {place} e = go (rw e at text-answers) (ℕ_discrete kind 11)
     where
       go : Told a_string at s kind place × (kind ≤ 11) → Dec (kind ≡ 11) → ((kind ≡ 11) × StopsAt (Only AString) s at place) ⊎ ((kind ≡ 10) × BrokenAt (Only AString) s at place)
@@ -146,12 +145,12 @@ module _ (s : Bytes) (at : ℕ) (here : at ≤ length s) where
           inr (q, told-broken string-reads t.0 q)
 
   -- what is a string is read whole, and decoded to the characters that it means
-  pub string-read : {end : ℕ} {cs : List ℕ} → at ≤ end → end ≤ length s → String (slice at end s) cs [] → (text_read_at s at ≡ Whole end) × (chars_at s at ≡ meant cs)
+  pub string-read : {end : ℕ} {cs : List ℕ} → at ≤ end → end ≤ length s → String (slice at end s) cs [] → (text_read_at s at ≡ Ok end) × (chars_at s at ≡ meant cs)
   unfolding text_read_at
   string-read {end} {cs} l m t =
       let whole : String (drop at s) cs (drop end s) = rw (slice-rest s at end l m) (string-more t (drop end s)) in
       let w : (byte_at s at ≡ 34) × Walked s (at + 1) (meant cs) (drop end s) = string-walk s at whole refl in
       let more : at < length s = inside s at 34 w.0 (omega arith) in
-      let r : (text_from (length s) s (at + 1) ≡ Whole w.1.end) × (w.1.end ≤ length s) = text-by s w.1.walk (length s) (omega arith) (omega arith) in
+      let r : (text_from (length s) s (at + 1) ≡ Ok w.1.end) × (w.1.end ≤ length s) = text-by s w.1.walk (length s) (omega arith) (omega arith) in
       let same : w.1.end ≡ end = omega (arith, simp length-drop at (ap length w.1.left), r.1) in
-      (rw (eq-eqb (byte_at s at) 34 w.0) (r.0 ∙ ap Whole same), string-means s at whole)
+      (rw (eq-eqb (byte_at s at) 34 w.0) (r.0 ∙ ap Ok same), string-means s at whole)

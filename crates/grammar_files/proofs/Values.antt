@@ -1,6 +1,7 @@
 -- A value in a field of any type, along the machine: read whole it ends where the machine is through with a value, and a
 -- fault is told as the grammar has it.
 -- Assumes nothing.
+use Rattle.std.specs.Prelude.{Ok, Err}
 use Prim.Native.Nat.{ℕ, ◌+◌, ◌≤◌, ◌<◌}
 use mathlib.Core.Path.{◌≡◌, refl}
 use mathlib.Core.Logic.{◌⊎◌, inl, inr}
@@ -10,9 +11,7 @@ use native.Mathlib.Omega.{arith}
 use borrow.Author.Tests.{eqb-true, ltb-true, ne_eqb}
 use lib.Dec.{ltb, eqb}
 use lib.ListN.{drop}
-use Rattle.json_bytes.specs.Reads.{byte_at, within, literal_at}
-use Rattle.json_bytes.specs.declared.Reading.{Reading}
-use Rattle.json_bytes.specs.declared.Reading.TheVariants.{Whole, Fault}
+use Rattle.json_bytes.specs.Reads.{byte_at, within, literal_at, Reading}
 use Rattle.json_bytes.proofs.Laws.{by-test, inside, within-from, within-to}
 use Rattle.json_chars.specs.Chars.{chars_at}
 use Rattle.json_text.specs.Text.{text_read_at, wrong_at, text_read}
@@ -22,9 +21,8 @@ use Rattle.json_number.specs.declared.Value.{Value as NumberValue}
 use Rattle.json_number.specs.declared.Value.TheVariants.{Fits, Beyond}
 use Rattle.json_number.specs.declared.Integer.{Integer}
 use Rattle.json_number.specs.declared.Integer.TheVariants.{Is, Fraction, TooLarge}
-use Rattle.json_date.specs.Date.{date_of}
-use Rattle.json_date.specs.declared.Date.{Date}
-use Rattle.json_date.specs.declared.Date.TheVariants.{Day, NoDate}
+use Rattle.json_date.specs.Date.{Date, date_of}
+use Rattle.std.specs.Prelude.{Some, None}
 use Rattle.table_value.specs.Value.{text_type, text_held, date_held, string_in, string_value, decimal_held, integer_held, number_in, number_value, literal_in, literal_value, starts_number, opens, value_at, token_at, not_object_of, not_object_at}
 use Rattle.table_value.specs.declared.ValueRead.{ValueRead}
 use Rattle.table_value.specs.declared.ValueRead.TheVariants.{Held, Null, Bad}
@@ -96,8 +94,8 @@ module _ (K₀ : Stack) (start : ℕ) (s : Bytes) (K : Stack) (at : ℕ) (a : At
 
     date-held : (d : Date) → Judged (date_held at end d)
     unfolding date_held
-    date-held (Day year month day) = b
-    date-held NoDate = here 17 (omega arith)
+    date-held (Some day) = b
+    date-held None = here 17 (omega arith)
 
     string-in : (w : Wrong) → WrongHere K₀ start s K w → Judged (string_in s at ty end w)
     unfolding string_in
@@ -130,18 +128,18 @@ module _ (K₀ : Stack) (start : ℕ) (s : Bytes) (K : Stack) (at : ℕ) (a : At
         by-test Judged (eqb (byte_at s at) 110) _ _ (λ _. b)
         (λ _. by-test Judged (eqb ty 0) _ _ (λ _. b) (λ _. here 15 (omega arith)))
 
-  string-value : (ty : ℕ) (w : Wrong) → WrongHere K₀ start s K w → (r : Reading) → TextRead K₀ start s K r → Judged (elim r [ Whole end ↦ string_in s at ty end w | Fault kind place ↦ Bad kind place ])
-  string-value ty w h (Whole end) b = string-in ty end b w h
-  string-value ty w h (Fault kind place) b = b.0
+  string-value : (ty : ℕ) (w : Wrong) → WrongHere K₀ start s K w → (r : Reading) → TextRead K₀ start s K r → Judged (elim r [ Ok end ↦ string_in s at ty end w | Err e ↦ Bad e.kind e.place ])
+  string-value ty w h (Ok end) b = string-in ty end b w h
+  string-value ty w h (Err e) b = b.0
 
-  number-value : (ty : ℕ) (v : NumberValue) (r : Reading) → Answered K₀ start s K r → Judged (elim r [ Whole end ↦ number_in at ty end v | Fault kind place ↦ Bad kind place ])
-  number-value ty v (Whole end) b = number-in ty end b v
-  number-value ty v (Fault kind place) b = b
+  number-value : (ty : ℕ) (v : NumberValue) (r : Reading) → Answered K₀ start s K r → Judged (elim r [ Ok end ↦ number_in at ty end v | Err e ↦ Bad e.kind e.place ])
+  number-value ty v (Ok end) b = number-in ty end b v
+  number-value ty v (Err e) b = b
 
   literal-value : (ty : ℕ) (r : Reading) → Answered K₀ start s K r → Judged (literal_value s at ty r)
   unfolding literal_value
-  literal-value ty (Whole end) b = literal-in ty end b
-  literal-value ty (Fault kind place) b = b
+  literal-value ty (Ok end) b = literal-in ty end b
+  literal-value ty (Err e) b = b
 
   -- a number's symbols in place of a value's
   number-words : (t : Bytes) → Words (a_number ++ K) (λ r. r ≡ []) t → Words (value ∷ K) (λ r. r ≡ []) t
@@ -179,12 +177,12 @@ module _ (K₀ : Stack) (start : ℕ) (s : Bytes) (K : Stack) (at : ℕ) (a : At
   -- ---- 12 where an object belongs
   not-object : (r : Reading) → Answered K₀ start s K r → Answered K₀ start s K (not_object_of at r)
   unfolding not_object_of
-  not-object (Whole end) b = here 12 (omega arith)
-  not-object (Fault kind place) b = b
+  not-object (Ok end) b = here 12 (omega arith)
+  not-object (Err e) b = b
 
   of-text : (r : Reading) → TextRead K₀ start s K r → Answered K₀ start s K r
-  of-text (Whole end) b = b
-  of-text (Fault kind place) b = b.0
+  of-text (Ok end) b = b
+  of-text (Err e) b = b.0
 
   token-at : opens (byte_at s at) ≡ false → Answered K₀ start s K (token_at s at)
   unfolding token_at

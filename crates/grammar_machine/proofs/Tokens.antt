@@ -1,6 +1,7 @@
 -- What a reader answers of a token, and that it is what the grammar says: read whole it is one, a fault stands where none
 -- goes on, and what is one is read whole. Spaces and literals here; the crates above have the other readers.
 -- Assumes nothing.
+use Rattle.std.specs.Prelude.{Ok, Err}
 use Prim.Native.Nat.{ℕ, zero, suc, ◌+◌, ◌≤◌, ◌<◌}
 use mathlib.Core.Path.{◌≡◌, refl, ap, ◌∙◌}
 use mathlib.Core.Bool.{Bool, true, false, cond, ◌||◌}
@@ -12,9 +13,7 @@ use lib.Dec.{eqb}
 use lib.ListN.{length, drop, get_or-eq_default}
 use lib.Seq.{slice}
 use Rattle.json_bytes.specs.Ascii.{codes}
-use Rattle.json_bytes.specs.Reads.{byte_at, leading, is_space, spaces_end, spelled_at, literal_at}
-use Rattle.json_bytes.specs.declared.Reading.{Reading}
-use Rattle.json_bytes.specs.declared.Reading.TheVariants.{Whole, Fault}
+use Rattle.json_bytes.specs.Reads.{byte_at, leading, is_space, spaces_end, spelled_at, literal_at, Reading, fault_at}
 use Rattle.json_bytes.proofs.Laws.{by-test, run_more, run-stops, run_ends}
 use Rattle.grammar.specs.Grammar.{Bytes, Begins, Literal, Character}
 use Rattle.grammar.specs.Claims.{StopsAt, Longest, Only}
@@ -55,17 +54,17 @@ retold (judged K m a) h other l = judged K l a
 
 -- what a reader answers: where it is through, or a fault
 abbrev pub Answered : Stack → ℕ → Bytes → Stack → Reading → Type 0
-Answered K₀ start s K (Whole end) = At K₀ start s K end
-Answered K₀ start s K (Fault kind place) = Told K₀ start s kind place
+Answered K₀ start s K (Ok end) = At K₀ start s K end
+Answered K₀ start s K (Err e) = Told K₀ start s e.kind e.place
 
 -- what a reader of a token answers
 abbrev pub Answers : Stack → ℕ → Bytes → Stack → Reading → Type 0
-Answers K₀ start s K (Whole end) = At K₀ start s K end
-Answers K₀ start s K (Fault kind place) = (kind ≡ 11) × Stopped K₀ start s place
+Answers K₀ start s K (Ok end) = At K₀ start s K end
+Answers K₀ start s K (Err e) = (e.kind ≡ 11) × Stopped K₀ start s e.place
 
 pub answered : (K₀ : Stack) (start : ℕ) (s : Bytes) (K : Stack) (r : Reading) → Answers K₀ start s K r → Answered K₀ start s K r
-answered K₀ start s K (Whole end) a = a
-answered K₀ start s K (Fault kind place) a = rw a.0 (stopped a.1)
+answered K₀ start s K (Ok end) a = a
+answered K₀ start s K (Err e) a = rw a.0 (stopped a.1)
 
 -- ---- A run of bytes that a symbol takes again and again
 pub record Ran (K₀ : Stack) (start : ℕ) (s : Bytes) (f : ℕ → Bool) (K : Stack) (i : ℕ) : Type 0 where
@@ -127,7 +126,7 @@ module _ {K₀ : Stack} {start : ℕ} {s : Bytes} (K : Stack) where
   word_at [] h i a = a
   word_at (w ∷ ws) h i a = go (word_at ws h.1 (i + 1)) (eqb (byte_at s i) w) refl
     where
-      go : (At K₀ start s (map just ws ++ K) (i + 1) → Answers K₀ start s K (spelled_at s (i + 1) ws)) → (t : Bool) → eqb (byte_at s i) w ≡ t → Answers K₀ start s K (elim t [ true ↦ spelled_at s (i + 1) ws | false ↦ Fault 11 i ])
+      go : (At K₀ start s (map just ws ++ K) (i + 1) → Answers K₀ start s K (spelled_at s (i + 1) ws)) → (t : Bool) → eqb (byte_at s i) w ≡ t → Answers K₀ start s K (elim t [ true ↦ spelled_at s (i + 1) ws | false ↦ fault_at 11 i ])
       go rest true e =
           rest (push_at (just w) (map just ws ++ K) [] w (eqb-true (byte_at s i) w e) h.0 (just-row w w refl) a)
       go rest false e =
@@ -194,9 +193,9 @@ module _ {K₀ : Stack} {X : Bytes → Type 0} (reads : Reads K₀ X) (s : Bytes
             let same : place ≡ end = omega arith in
             not-here reads (stuck_at p.top p.below p.stuck p.here) p.here (rw same x.is_one)
 
-    pub read-token : (r : Reading) → Answers K₀ start s [] r → r ≡ Whole end
-    read-token (Whole e) a = ap Whole (end_is a)
-    read-token (Fault kind place) a = absurd (no-fault a.1)
+    pub read-token : (r : Reading) → Answers K₀ start s [] r → r ≡ Ok end
+    read-token (Ok e) a = ap Ok (end_is a)
+    read-token (Err e) a = absurd (no-fault a.1)
 
   -- an X whose last byte shows that it ends there is the longest
   pub firm-longest : ((l x : Bytes) → X l → verdict K₀ (l ++ x) ≡ verdict [] x) → {end : ℕ} → start ≤ end → X (slice start end s) → Longest X s start end
@@ -220,16 +219,16 @@ module _ (s : Bytes) (at : ℕ) (inside : at ≤ length s) where
   literal-answers = literal-at [] at (at-start (literal ∷ []) at s inside)
 
   -- read whole, it is a literal
-  pub literal-whole : {end : ℕ} → literal_at s at ≡ Whole end → Longest (Only Literal) s at end
+  pub literal-whole : {end : ℕ} → literal_at s at ≡ Ok end → Longest (Only Literal) s at end
   literal-whole e = whole-token literal-reads s at (rw e at literal-answers)
 
   -- a fault is 11, at the first byte with which none goes on
-  pub literal-fault : {kind place : ℕ} → literal_at s at ≡ Fault kind place → (kind ≡ 11) × StopsAt (Only Literal) s at place
+  pub literal-fault : {kind place : ℕ} → literal_at s at ≡ fault_at kind place → (kind ≡ 11) × StopsAt (Only Literal) s at place
   literal-fault e =
-      let a : Answers (literal ∷ []) at s [] (Fault _ _) = rw e at literal-answers in
+      let a : Answers (literal ∷ []) at s [] (fault_at _ _) = rw e at literal-answers in
       (a.0, fault-token literal-reads s at a.1)
 
   -- what is a literal is read whole
-  pub literal-read : {end : ℕ} → at ≤ end → end ≤ length s → Only Literal (slice at end s) → literal_at s at ≡ Whole end
+  pub literal-read : {end : ℕ} → at ≤ end → end ≤ length s → Only Literal (slice at end s) → literal_at s at ≡ Ok end
   literal-read l m x =
       read-token literal-reads s at l m (firm-longest literal-reads s at (λ w y h. literal-run (literal-more h y) []) l x) (literal_at s at) literal-answers

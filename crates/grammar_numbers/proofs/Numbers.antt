@@ -1,5 +1,6 @@
 -- The number reader reads the numbers of the grammar: along the machine, part by part in the order of both; and by itself.
 -- Assumes nothing.
+use Rattle.std.specs.Prelude.{Ok}
 use Prim.Native.Nat.{ℕ, suc, ◌+◌, ◌≤◌, ◌<◌}
 use mathlib.Core.Path.{◌≡◌, refl, sym, ◌∙◌}
 use mathlib.Core.Bool.{Bool, true, false, cond}
@@ -9,8 +10,7 @@ use native.Mathlib.Omega.{arith}
 use borrow.Author.Tests.{eqb-true, eqb-false, eq-eqb, ne_eqb}
 use lib.Dec.{eqb}
 use lib.ListN.{length, drop}
-use Rattle.json_bytes.specs.Reads.{byte_at, within, leading}
-use Rattle.json_bytes.specs.declared.Reading.TheVariants.{Whole, Fault}
+use Rattle.json_bytes.specs.Reads.{byte_at, within, leading, fault_at}
 use Rattle.json_bytes.proofs.Laws.{by-test, inside, within-from, within-to, run_more, run-stops, run_ends}
 use Rattle.json_number.specs.Number.{is_digit, digits_at, fraction_at, coefficient_at, power_digits_at, signed_at, exponent_at, with_exponent, with_coefficient, number_at}
 use Rattle.json_number.specs.declared.Number.{Number as NumberRead}
@@ -172,15 +172,15 @@ module _ (s : Bytes) (at : ℕ) (inside : at ≤ length s) where
   number-answers = number-at [] at (at-start a_number at s inside)
 
   -- read whole, it is a number, and no number goes on with the next byte
-  pub number-whole : {end : ℕ} → (number_at s at).reading ≡ Whole end → Longest (Only Number) s at end
+  pub number-whole : {end : ℕ} → (number_at s at).reading ≡ Ok end → Longest (Only Number) s at end
   number-whole e = whole-token number-reads s at (rw e at number-answers)
 
   -- a fault is 11, at the first byte with which none goes on
-  pub number-fault : {kind place : ℕ} → (number_at s at).reading ≡ Fault kind place → (kind ≡ 11) × StopsAt (Only Number) s at place
+  pub number-fault : {kind place : ℕ} → (number_at s at).reading ≡ fault_at kind place → (kind ≡ 11) × StopsAt (Only Number) s at place
   number-fault e =
-      let a : Answers a_number at s [] (Fault _ _) = rw e at number-answers in
+      let a : Answers a_number at s [] (fault_at _ _) = rw e at number-answers in
       (a.0, fault-token number-reads s at a.1)
 
   -- what is a number, and no byte that could lengthen it follows, is read whole
-  pub number_read : {end : ℕ} → at ≤ end → end ≤ length s → Longest (Only Number) s at end → (number_at s at).reading ≡ Whole end
+  pub number_read : {end : ℕ} → at ≤ end → end ≤ length s → Longest (Only Number) s at end → (number_at s at).reading ≡ Ok end
   number_read l m x = read-token number-reads s at l m x (number_at s at).reading number-answers

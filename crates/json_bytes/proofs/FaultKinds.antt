@@ -3,6 +3,7 @@
 -- what it adds itself; each crate has the law of its own readers and cites those below.
 -- Here what these laws share, and a literal.
 -- Assumes nothing.
+use Rattle.std.specs.Prelude.{Ok, Err}
 use Prim.Native.Nat.{ℕ, zero, suc, ◌+◌, ◌<◌}
 use mathlib.Core.Path.{◌≡◌, refl}
 use mathlib.Core.Bool.{Bool, true, false, cond, ◌&&◌, ◌||◌, or-true, or_assoc}
@@ -11,9 +12,7 @@ use native.Mathlib.Omega.{arith}
 use borrow.Author.Tests.{eqb-true, eqb-false, eq-eqb}
 use lib.Dec.{eqb}
 use Rattle.json_bytes.specs.Ascii.{codes}
-use Rattle.json_bytes.specs.Reads.{byte_at, spelled_at, literal_at}
-use Rattle.json_bytes.specs.declared.Reading.{Reading}
-use Rattle.json_bytes.specs.declared.Reading.TheVariants.{Whole, Fault}
+use Rattle.json_bytes.specs.Reads.{byte_at, spelled_at, literal_at, Reading, fault_at}
 use Rattle.json_bytes.proofs.Laws.{either, both_left, both_right}
 use Rattle.json_bytes.proofs.Opens.{open-bytes}
 
@@ -76,18 +75,18 @@ in_order ks = below (is_in ks) 100
 
 -- ---- what a reader answers: no fault, or one of a kind in the set
 abbrev pub Faults : List ℕ → Reading → Type 0
-Faults ks (Whole end) = Unit {0}
-Faults ks (Fault kind place) = In ks kind
+Faults ks (Ok end) = Unit {0}
+Faults ks (Err e) = In ks e.kind
 
 -- what holds of a whole reading and of each fault of a kind in the set holds of such an answer
-pub of-reading : (P : Reading → Type 0) (ks : List ℕ) → ((end : ℕ) → P (Whole end)) → ((kind place : ℕ) → In ks kind → P (Fault kind place)) → (r : Reading) → Faults ks r → P r
-of-reading P ks f g (Whole end) h = f end
-of-reading P ks f g (Fault kind place) h = g kind place h
+pub of-reading : (P : Reading → Type 0) (ks : List ℕ) → ((end : ℕ) → P (Ok end)) → ((kind place : ℕ) → In ks kind → P (fault_at kind place)) → (r : Reading) → Faults ks r → P r
+of-reading P ks f g (Ok end) h = f end
+of-reading P ks f g (Err e) h = g e.kind e.place h
 
 -- the kind, 0 for no fault
 abbrev pub kind_of : Reading → ℕ
-kind_of (Whole end) = 0
-kind_of (Fault kind place) = kind
+kind_of (Ok end) = 0
+kind_of (Err e) = e.kind
 
 -- ---- a literal
 abbrev pub literal_kinds : List ℕ
@@ -98,7 +97,7 @@ unfolding spelled_at
 word-kinds s i [] = tt
 word-kinds s i (w ∷ ws) = go (eqb (byte_at s i) w) (word-kinds s (i + 1) ws)
   where
-    go : (t : Bool) → Faults literal_kinds (spelled_at s (i + 1) ws) → Faults literal_kinds (elim t [ true ↦ spelled_at s (i + 1) ws | false ↦ Fault 11 i ])
+    go : (t : Bool) → Faults literal_kinds (spelled_at s (i + 1) ws) → Faults literal_kinds (elim t [ true ↦ spelled_at s (i + 1) ws | false ↦ fault_at 11 i ])
     go true rest = rest
     go false rest = refl
 
@@ -110,6 +109,6 @@ literal-kinds s at =
     (either (Faults literal_kinds) (eqb (byte_at s at) 110) _ _ (word-kinds s at _) refl))
 
 -- each is given: `x` is no literal
-pub literal-given : map (λ s. literal_at s 0) ((120 ∷ []) ∷ []) ≡ map (λ kind. Fault kind 0) literal_kinds
+pub literal-given : map (λ s. literal_at s 0) ((120 ∷ []) ∷ []) ≡ map (λ kind. fault_at kind 0) literal_kinds
 unfolding open-bytes
 literal-given = refl

@@ -1,5 +1,6 @@
 -- One turn of each loop over bytes, as an equation between what is left to read before it and after it.
 -- Assumes nothing.
+use Rattle.std.specs.Prelude.{Ok}
 use Prim.Native.Nat.{ℕ, zero, suc, ◌+◌, ◌≤◌, ◌<◌}
 use mathlib.Core.Path.{◌≡◌, refl}
 use mathlib.Core.Bool.{Bool, true, false, cond, ◌&&◌}
@@ -11,9 +12,7 @@ use borrow.Author.Tests.{eq-eqb, ne_eqb, leb-true}
 use lib.ListN.{length, get_or, drop, drop_of_length-le}
 use lib.Seq.{drop-cons}
 use lib.Dec.{leb}
-use Rattle.json_bytes.specs.Ascii.{codes}
-use Rattle.json_bytes.specs.Reads.{leading, within, byte_at, spelled_at, literal_at}
-use Rattle.json_bytes.specs.declared.Reading.TheVariants.{Whole, Fault}
+use Rattle.json_bytes.specs.Reads.{leading, within, byte_at, spelled_at, fault_at}
 
 -- ---- tests
 pub by-test : {A : Type 0} (P : A → Type 0) (t : Bool) (a b : A) → (t ≡ true → P a) → (t ≡ false → P b) → P (cond t a b)
@@ -82,28 +81,10 @@ module _ (s : List ℕ) (at : ℕ) (word : List ℕ) (k : ℕ) where
   unfolding spelled_at
   word_more l e = rw (drop-cons word k 0 l, eq-eqb _ _ e, spelled_at, add-one k, add-suc at k, add-one (at + k))
 
-  pub word-stops : k < length word → (byte_at s (at + k) ≡ get_or word k 0 → ⊥) → spelled_at s (at + k) (drop k word) ≡ Fault 11 (at + k)
+  pub word-stops : k < length word → (byte_at s (at + k) ≡ get_or word k 0 → ⊥) → spelled_at s (at + k) (drop k word) ≡ fault_at 11 (at + k)
   unfolding spelled_at
   word-stops l e = rw (drop-cons word k 0 l, ne_eqb _ _ e, spelled_at)
 
-  pub word-ends : length word ≤ k → spelled_at s (at + k) (drop k word) ≡ Whole (at + k)
+  pub word-ends : length word ≤ k → spelled_at s (at + k) (drop k word) ≡ Ok (at + k)
   unfolding spelled_at
   word-ends l = rw (drop_of_length-le word l)
-
--- ---- a literal, by its first byte
-module _ (s : List ℕ) (at b : ℕ) (is : b ≡ byte_at s at) where
-  pub begins-true : b ≡ 116 → literal_at s at ≡ spelled_at s at (116 ∷ 114 ∷ 117 ∷ 101 ∷ [])
-  unfolding literal_at codes
-  begins-true e = rw (← is, eq-eqb b 116 e)
-
-  pub begins-false : (b ≡ 116 → ⊥) → b ≡ 102 → literal_at s at ≡ spelled_at s at (102 ∷ 97 ∷ 108 ∷ 115 ∷ 101 ∷ [])
-  unfolding literal_at codes
-  begins-false n e = rw (← is, ne_eqb b 116 n, eq-eqb b 102 e)
-
-  pub begins-null : (b ≡ 116 → ⊥) → (b ≡ 102 → ⊥) → b ≡ 110 → literal_at s at ≡ spelled_at s at (110 ∷ 117 ∷ 108 ∷ 108 ∷ [])
-  unfolding literal_at codes
-  begins-null n m e = rw (← is, ne_eqb b 116 n, ne_eqb b 102 m, eq-eqb b 110 e)
-
-  pub begins-none : (b ≡ 116 → ⊥) → (b ≡ 102 → ⊥) → (b ≡ 110 → ⊥) → literal_at s at ≡ Fault 11 at
-  unfolding literal_at codes
-  begins-none n m o = rw (← is, ne_eqb b 116 n, ne_eqb b 102 m, ne_eqb b 110 o)

@@ -1,17 +1,21 @@
 // What every reader of a file's bytes stands on: a byte at a place, or eight of them, the answer of a
 // reader, and the two simplest readers.
-#![tactic(auto)]
+#![tactic(auto, unfolding(crate::specs::Reads::within, crate::specs::Reads::is_space, crate::specs::Reads::spaces_end, crate::specs::Reads::literal_at, crate::specs::Ascii::codes))]
 
 ghost use Rattle.std.specs.Prelude.{◌≡◌, ◌+◌, ◌≤◌, ◌<◌, length};
 ghost use Rattle.json_bytes.specs.Eight.{packed_at, eight_at};
 ghost use Rattle.json_bytes.specs.Reads.{byte_at, within, is_space, spaces_end, literal_at, spelled_at};
 
-// What reading a token gives: the place behind it, or the kind and place of its fault.
+// What is wrong with a file, and where: the kind is the number that document 01, "Marks 0 to 19", gives it, which the
+// C interface hands on as it is.
 #[derive(Clone, Copy)]
-pub enum Reading {
-    Whole { end: usize },
-    Fault { kind: u32, place: usize },
+pub struct Fault {
+    pub kind: u32,
+    pub place: usize,
 }
+
+// What reading a token gives: the place behind it, or its fault.
+pub type Reading = Result<usize, Fault>;
 
 // The byte at a place, and 0 past the end: no JSON text holds a 0, so that a file that is cut off
 // fails where its next byte is looked at.
@@ -51,40 +55,25 @@ pub fn eight_at(s: &[u8], i: usize) -> u64
 pub fn is_within(lo: u32, hi: u32, x: u32) -> bool
     ensures { result ≡ within lo hi x }
 {
-    if x < lo {
-        return false;
-    }
-    x <= hi
+    (lo..=hi).contains(&x)
 }
 
 fn is_space(b: u8) -> bool
     ensures { result ≡ is_space b }
 {
-    if b == 9 {
-        return true;
-    }
-    if b == 10 {
-        return true;
-    }
-    if b == 13 {
-        return true;
-    }
-    b == 32
+    b == b'\t' || b == b'\n' || b == b'\r' || b == b' '
 }
 
 // The first place from `at` on that no space byte holds.
 pub fn skip_spaces(s: &[u8], at: usize) -> usize
     ensures { result ≡ spaces_end s.now at }
 {
-    let mut i = at;
-    while i < s.len() {
-        if is_space(s[i]) {
-            i += 1;
-        } else {
+    for i in at..s.len() {
+        if !is_space(s[i]) {
             return i;
         }
     }
-    i
+    at.max(s.len())
 }
 
 // A word letter by letter: whole behind its last, or 11 at the first byte that differs.
@@ -92,33 +81,28 @@ fn word_at(s: &[u8], at: usize, word: &[u8]) -> Reading
     requires { at < length s.now }
     ensures { result ≡ spelled_at s.now at word.now }
 {
-    let mut k = 0;
-    while k < word.len() {
-        let i = at + k;
-        if byte_at(s, i) != word[k] {
-            return Reading::Fault { kind: 11, place: i };
+    for (k, letter) in word.iter().enumerate() {
+        if byte_at(s, at + k) != *letter {
+            return Err(Fault {
+                kind: 11,
+                place: at + k,
+            });
         }
-        k += 1;
     }
-    Reading::Whole { end: at + k }
+    Ok(at + word.len())
 }
 
 // A literal: true, false or null whole, or 11 at the first byte that differs.
 pub fn literal_at(s: &[u8], at: usize) -> Reading
     ensures { result ≡ literal_at s.now at }
 {
-    let b = byte_at(s, at);
-    if b == b't' {
-        return word_at(s, at, b"true");
-    }
-    if b == b'f' {
-        return word_at(s, at, b"false");
-    }
-    if b == b'n' {
-        return word_at(s, at, b"null");
-    }
-    Reading::Fault {
-        kind: 11,
-        place: at,
+    match byte_at(s, at) {
+        b't' => word_at(s, at, b"true"),
+        b'f' => word_at(s, at, b"false"),
+        b'n' => word_at(s, at, b"null"),
+        _ => Err(Fault {
+            kind: 11,
+            place: at,
+        }),
     }
 }

@@ -1,7 +1,8 @@
 -- What a caller needs of a step at a place within the file: a character ends behind its place and within the file, a
 -- closing quote stands inside it, and a fault's place lies within it or at its length.
 -- Assumes nothing.
-use Prim.Native.Nat.{ℕ, zero, suc, ◌+◌, ◌-◌, ◌≤◌, ◌<◌}
+use Rattle.std.specs.Prelude.{Ok, Err}
+use Prim.Native.Nat.{ℕ, zero, suc, ◌+◌, ◌≤◌, ◌<◌}
 use mathlib.Core.Path.{◌≡◌, refl}
 use mathlib.Core.Bool.{true}
 use mathlib.Core.List.{List}
@@ -9,14 +10,12 @@ use native.Mathlib.Nat.{not-suc-le-zero}
 use native.Mathlib.Omega.{arith}
 use borrow.Author.Tests.{ltb-true, ltb-false, eqb-true}
 use lib.ListN.{length}
-use lib.Dec.{ltb, eqb, lit<}
+use lib.Dec.{ltb, eqb}
 use Rattle.json_bytes.specs.Reads.{byte_at, within}
 use Rattle.json_bytes.proofs.Laws.{inside, by-test, both_right, within-from}
-use Rattle.json_chars.specs.Step.{second, is_two, is_three, is_four, sequence_of, sequence_at, letter_escape, hex_digit, digit_at, unit_at, unit_of, escaped_at, is_pair, surrogates_joined, escape_at, step_at}
+use Rattle.json_chars.specs.Step.{second, is_two, is_three, is_four, sequence_of, sequence_at, letter_escape, hex_digit, digit_at, unit_at, unit_of, escaped_at, is_pair, surrogates_joined, escape_at, step_at, Unit16}
 use Rattle.json_chars.specs.declared.Step.{Step}
 use Rattle.json_chars.specs.declared.Step.TheVariants.{Char, Close, Bad}
-use Rattle.json_chars.specs.declared.Unit16.{Unit16}
-use Rattle.json_chars.specs.declared.Unit16.TheVariants.{Hex, NoHex}
 use Rattle.json_chars.proofs.Laws.{pair-low}
 
 abbrev pub Good : List ℕ → ℕ → Step → Type 0
@@ -25,8 +24,8 @@ Good s i Close = i < length s
 Good s i (Bad kind p) = p ≤ length s
 
 abbrev UnitGood : List ℕ → ℕ → Unit16 → Type 0
-UnitGood s i (Hex u) = i + 3 < length s
-UnitGood s i (NoHex p) = p ≤ length s
+UnitGood s i (Ok u) = i + 3 < length s
+UnitGood s i (Err p) = p ≤ length s
 
 -- the second byte of a sequence is never below 80
 second_from : (a b : ℕ) → second a b ≡ true → 0x80 ≤ b
@@ -105,13 +104,13 @@ escaped-in s i l =
     (λ _ h. omega arith)
   where
     of-unit : (u : Unit16) → UnitGood s (i + 2) u → 0 < unit_of u → i + 5 < length s
-    of-unit (Hex u) g h = omega (arith, g)
-    of-unit (NoHex p) g h = omega arith
+    of-unit (Ok u) g h = omega (arith, g)
+    of-unit (Err p) g h = omega arith
 
 joined-good : (s : List ℕ) (i : ℕ) (u : Unit16) → i ≤ length s → UnitGood s (i + 2) u → Good s i (surrogates_joined s i u)
 unfolding surrogates_joined
-joined-good s i (NoHex p) l g = g
-joined-good s i (Hex u) l g =
+joined-good s i (Err p) l g = g
+joined-good s i (Ok u) l g =
     by-test (Good s i) (is_pair u (escaped_at s (i + 6))) _ _
     (λ t. let h : i + 6 + 5 < length s = escaped-in s (i + 6) (omega (arith, g)) (omega (arith, within-from _ _ (escaped_at s (i + 6)) (pair-low u (escaped_at s (i + 6)) t))) in
     (omega arith, omega arith))

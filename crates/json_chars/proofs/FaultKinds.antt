@@ -1,5 +1,6 @@
 -- Which kinds a step of a string can give: 10 and 11.
 -- Assumes nothing.
+use Rattle.std.specs.Prelude.{Ok, Err}
 use Prim.Native.Nat.{ℕ, ◌+◌}
 use mathlib.Core.Path.{◌≡◌, refl}
 use mathlib.Core.List.{List, [], ◌∷◌, map}
@@ -7,11 +8,9 @@ use lib.Dec.{ltb, eqb}
 use Rattle.json_bytes.specs.Reads.{byte_at}
 use Rattle.json_bytes.proofs.Laws.{either}
 use Rattle.json_bytes.proofs.FaultKinds.{In}
-use Rattle.json_chars.specs.Step.{is_two, is_three, is_four, sequence_of, sequence_at, letter_escape, unit_at, escaped_at, is_pair, surrogates_joined, escape_at, step_at}
+use Rattle.json_chars.specs.Step.{is_two, is_three, is_four, sequence_of, sequence_at, letter_escape, unit_at, escaped_at, is_pair, surrogates_joined, escape_at, step_at, Unit16}
 use Rattle.json_chars.specs.declared.Step.{Step}
 use Rattle.json_chars.specs.declared.Step.TheVariants.{Char, Close, Bad}
-use Rattle.json_chars.specs.declared.Unit16.{Unit16}
-use Rattle.json_chars.specs.declared.Unit16.TheVariants.{Hex, NoHex}
 use Rattle.json_chars.proofs.Opens.{open-chars}
 
 abbrev pub step_kinds : List ℕ
@@ -28,8 +27,8 @@ module _ (s : List ℕ) (i : ℕ) where
 
   joined-kinds : (u : Unit16) → Known (surrogates_joined s i u)
   unfolding surrogates_joined
-  joined-kinds (NoHex place) = refl
-  joined-kinds (Hex u) = either Known (is_pair u (escaped_at s (i + 6))) _ _ tt tt
+  joined-kinds (Err place) = refl
+  joined-kinds (Ok u) = either Known (is_pair u (escaped_at s (i + 6))) _ _ tt tt
 
   escape-kinds : Known (escape_at s i)
   unfolding escape_at

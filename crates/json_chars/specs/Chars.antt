@@ -1,5 +1,5 @@
 -- The decoded characters of a string, in order.
-use Rattle.std.specs.Prelude.{ℕ, zero, suc, ◌+◌, true, false, cond, List, [], ◌∷◌, length, eqb}
+use Rattle.std.specs.Prelude.{ℕ, zero, suc, ◌+◌, cond, List, [], ◌∷◌, length, eqb}
 use Rattle.json_bytes.specs.Reads.{byte_at}
 use Rattle.json_chars.specs.Step.{step_at}
 use Rattle.json_chars.specs.declared.Step.TheVariants.{Char, Close, Bad}

@@ -1,12 +1,10 @@
 -- One character of a JSON string, where it stands as written: its code and the place behind it; or the closing
 -- quote; or the fault of document 01, "Marks 0 to 19", kind 10 or 11, with its place.
 -- Sources: ECMA-404, section 9 (strings); the Unicode Standard, table 3-7 (well-formed UTF-8 byte sequences).
-use Rattle.std.specs.Prelude.{ℕ, ◌+◌, ◌*◌, ◌-◌, ◌%◌, Bool, true, false, cond, ◌&&◌, List, ltb, eqb}
+use Rattle.std.specs.Prelude.{ℕ, ◌+◌, ◌*◌, ◌-◌, ◌%◌, Bool, cond, ◌&&◌, List, ltb, eqb, Result, Ok, Err}
 use Rattle.json_bytes.specs.Reads.{byte_at, within}
 use Rattle.json_chars.specs.declared.Step.{Step}
 use Rattle.json_chars.specs.declared.Step.TheVariants.{Char, Close, Bad}
-use Rattle.json_chars.specs.declared.Unit16.{Unit16}
-use Rattle.json_chars.specs.declared.Unit16.TheVariants.{Hex, NoHex}
 
 -- ---- UTF-8, over a sequence's bytes a, b, c, d. The first says how many there are and in which range the second lies;
 -- the others lie in 80–BF.
@@ -49,6 +47,10 @@ hex_digit b =
 unfoldable pub digit_at : List ℕ → ℕ → ℕ
 digit_at s i = hex_digit (byte_at s i)
 
+-- a unit of sixteen bits, or the place that stands for none
+abbrev pub Unit16 : Type 0
+Unit16 = Result ℕ ℕ
+
 -- four hexadecimal digits from a place on: their number, or the first place that holds none
 unfoldable pub unit_at : List ℕ → ℕ → Unit16
 unit_at s i =
@@ -56,16 +58,16 @@ unit_at s i =
     (cond (ltb (digit_at s (i + 1)) 16)
     (cond (ltb (digit_at s (i + 2)) 16)
     (cond (ltb (digit_at s (i + 3)) 16)
-    (Hex (digit_at s i * 4096 + digit_at s (i + 1) * 256 + digit_at s (i + 2) * 16 + digit_at s (i + 3)))
-    (NoHex (i + 3)))
-    (NoHex (i + 2)))
-    (NoHex (i + 1)))
-    (NoHex i)
+    (Ok (digit_at s i * 4096 + digit_at s (i + 1) * 256 + digit_at s (i + 2) * 16 + digit_at s (i + 3)))
+    (Err (i + 3)))
+    (Err (i + 2)))
+    (Err (i + 1)))
+    (Err i)
 
 -- the unit that an escape of four digits at a place stands for; 0 where none stands there whole
 unfoldable pub unit_of : Unit16 → ℕ
-unit_of (Hex u) = u
-unit_of (NoHex p) = 0
+unit_of (Ok u) = u
+unit_of (Err p) = 0
 
 unfoldable pub escaped_at : List ℕ → ℕ → ℕ
 escaped_at s i = cond (eqb (byte_at s i) 92) (cond (eqb (byte_at s (i + 1)) 117) (unit_of (unit_at s (i + 2))) 0) 0
@@ -76,8 +78,8 @@ unfoldable pub is_pair : ℕ → ℕ → Bool
 is_pair high low = within 0xD800 0xDBFF high && within 0xDC00 0xDFFF low
 
 unfoldable pub surrogates_joined : List ℕ → ℕ → Unit16 → Step
-surrogates_joined s i (NoHex p) = Bad 11 p
-surrogates_joined s i (Hex u) =
+surrogates_joined s i (Err p) = Bad 11 p
+surrogates_joined s i (Ok u) =
     cond (is_pair u (escaped_at s (i + 6))) (Char (0x10000 + (u - 0xD800) * 1024 + (escaped_at s (i + 6) - 0xDC00)) (i + 12)) (Char u (i + 6))
 
 -- an escape, its backslash at i

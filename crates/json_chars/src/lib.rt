@@ -1,10 +1,10 @@
 // One character of a JSON string, decoded where it stands: escapes, surrogate pairs and UTF-8.
 // The answer carries the place behind the character, so that a caller can walk a string, and point
 // at a character, without a copy.
-#![tactic(auto)]
+#![tactic(auto, unfolding(json_bytes::specs::Reads::within, crate::specs::Step::second, crate::specs::Step::is_two, crate::specs::Step::is_three, crate::specs::Step::is_four, crate::specs::Step::sequence_of, crate::specs::Step::sequence_at, crate::specs::Step::letter_escape, crate::specs::Step::hex_digit, crate::specs::Step::digit_at, crate::specs::Step::unit_at, crate::specs::Step::unit_of, crate::specs::Step::escaped_at, crate::specs::Step::is_pair, crate::specs::Step::surrogates_joined, crate::specs::Step::escape_at, crate::specs::Step::step_at))]
 
-ghost use Rattle.std.specs.Prelude.{◌≡◌, cond, eqb, ◌+◌, ◌^◌, ◌<◌, length};
-ghost use Rattle.json_chars.specs.Step.{second, is_two, is_three, is_four, sequence_of, sequence_at, letter_escape, hex_digit, digit_at, unit_at, unit_of, escaped_at, is_pair, surrogates_joined, escape_at, step_at};
+ghost use Rattle.std.specs.Prelude.{◌≡◌, cond, eqb, ◌+◌, ◌^◌, ◌<◌, ◌≤◌, length, Ok, MatchResult, MatchOption, IfSome};
+ghost use Rattle.json_chars.specs.Step.{second, is_two, is_three, is_four, sequence_of, sequence_at, letter_escape, hex_digit, digit_at, unit_at, escaped_at, is_pair, surrogates_joined, escape_at, step_at};
 ghost use Rattle.json_bytes.specs.Reads.{byte_at};
 
 use json_bytes::{byte_at, is_within};
@@ -16,15 +16,8 @@ pub enum Step {
     Char { code: u32, next: usize },
     // The closing quote.
     Close,
-    // No string can go on here: kind 10 or 11 of the file's marks, and its place.
+    // No string can go on here: kind 10 or 11, as document 01's table of the file's marks numbers them, and its place.
     Bad { kind: u32, place: usize },
-}
-
-// Four hexadecimal digits: their number, or the place of the first byte that is none.
-#[derive(Clone, Copy)]
-pub enum Unit16 {
-    Hex { unit: u32 },
-    NoHex { place: usize },
 }
 
 // The byte at a place as a number; 0 past the end.
@@ -38,52 +31,34 @@ fn number_at(s: &[u8], i: usize) -> u32
 fn is_second(a: u32, b: u32) -> bool
     ensures { result ≡ second a b }
 {
-    if a == 0xE0 {
-        return is_within(0xA0, 0xBF, b);
+    match a {
+        0xE0 => is_within(0xA0, 0xBF, b),
+        0xF0 => is_within(0x90, 0xBF, b),
+        0xED => is_within(0x80, 0x9F, b),
+        0xF4 => is_within(0x80, 0x8F, b),
+        _ => is_within(0x80, 0xBF, b),
     }
-    if a == 0xF0 {
-        return is_within(0x90, 0xBF, b);
-    }
-    if a == 0xED {
-        return is_within(0x80, 0x9F, b);
-    }
-    if a == 0xF4 {
-        return is_within(0x80, 0x8F, b);
-    }
-    is_within(0x80, 0xBF, b)
 }
 
 fn is_two(a: u32, b: u32) -> bool
     ensures { result ≡ is_two a b }
 {
-    if is_within(0xC2, 0xDF, a) {
-        return is_second(a, b);
-    }
-    false
+    is_within(0xC2, 0xDF, a) && is_second(a, b)
 }
 
 fn is_three(a: u32, b: u32, c: u32) -> bool
     ensures { result ≡ is_three a b c }
 {
-    if is_within(0xE0, 0xEF, a) {
-        if is_second(a, b) {
-            return is_within(0x80, 0xBF, c);
-        }
-    }
-    false
+    is_within(0xE0, 0xEF, a) && is_second(a, b) && is_within(0x80, 0xBF, c)
 }
 
 fn is_four(a: u32, b: u32, c: u32, d: u32) -> bool
     ensures { result ≡ is_four a b c d }
 {
-    if is_within(0xF0, 0xF4, a) {
-        if is_second(a, b) {
-            if is_within(0x80, 0xBF, c) {
-                return is_within(0x80, 0xBF, d);
-            }
-        }
-    }
-    false
+    is_within(0xF0, 0xF4, a)
+        && is_second(a, b)
+        && is_within(0x80, 0xBF, c)
+        && is_within(0x80, 0xBF, d)
 }
 
 // The character of the UTF-8 sequence a, b, c, d at i, which has as many of them as a says.
@@ -121,11 +96,11 @@ fn sequence_at(s: &[u8], i: usize) -> Step
     sequence_of(i, a, b, c, d)
 }
 
-// The character that a letter behind the backslash stands for; 0 for a letter that may not stand there.
-fn letter_escape(b: u32) -> u32
-    ensures { result ≡ letter_escape b }
+// The character that a letter behind the backslash stands for; none for a letter that may not stand there.
+fn letter_escape(b: u32) -> Option<u32>
+    ensures { MatchOption result (letter_escape b ≡ 0) (λ c. (c ≡ letter_escape b) × (0 < c)) }
 {
-    match b {
+    Some(match b {
         34 => 34,
         92 => 92,
         47 => 47,
@@ -134,66 +109,39 @@ fn letter_escape(b: u32) -> u32
         110 => 10,
         114 => 13,
         116 => 9,
-        _ => 0,
+        _ => return None,
+    })
+}
+
+// A hexadecimal digit's value; none for any other byte.
+fn hex_digit(b: u32) -> Option<u32>
+    ensures { MatchOption result (hex_digit b ≡ 16) (λ d. (d ≡ hex_digit b) × (d < 16)) }
+{
+    match b {
+        48..=57 => Some(b - 48),
+        65..=70 => Some(b - 55),
+        97..=102 => Some(b - 87),
+        _ => None,
     }
 }
 
-// A hexadecimal digit's value; 16 for any other byte.
-fn hex_digit(b: u32) -> u32
-    ensures { (result ≡ hex_digit b) × (result < 17) }
+// The value of the digit at a place, or the place where none stands there.
+fn digit_at(s: &[u8], i: usize) -> Result<u32, usize>
+    ensures { MatchResult result (λ d. (d ≡ digit_at s.now i) × (d < 16)) (λ p. (p ≡ i) × (16 ≤ digit_at s.now i)) }
 {
-    if is_within(48, 57, b) {
-        return b - 48;
-    }
-    if is_within(65, 70, b) {
-        return b - 55;
-    }
-    if is_within(97, 102, b) {
-        return b - 87;
-    }
-    16
-}
-
-fn digit_at(s: &[u8], i: usize) -> u32
-    ensures { (result ≡ digit_at s.now i) × (result < 17) }
-{
-    hex_digit(number_at(s, i))
+    hex_digit(number_at(s, i)).ok_or(i)
 }
 
 // Four hexadecimal digits from a place on: their number, or the first place that holds none.
-fn unit_at(s: &[u8], i: usize) -> Unit16
+fn unit_at(s: &[u8], i: usize) -> Result<u32, usize>
     requires { i < 2 ^ 63 + 16 }
     ensures { result ≡ unit_at s.now i }
 {
-    let a = digit_at(s, i);
-    if 16 <= a {
-        return Unit16::NoHex { place: i };
-    }
-    let b = digit_at(s, i + 1);
-    if 16 <= b {
-        return Unit16::NoHex { place: i + 1 };
-    }
-    let c = digit_at(s, i + 2);
-    if 16 <= c {
-        return Unit16::NoHex { place: i + 2 };
-    }
-    let d = digit_at(s, i + 3);
-    if 16 <= d {
-        return Unit16::NoHex { place: i + 3 };
-    }
-    Unit16::Hex {
-        unit: a * 4096 + b * 256 + c * 16 + d,
-    }
-}
-
-// A unit as it is; 0 where there is none.
-fn unit_of(u: Unit16) -> u32
-    ensures { result ≡ unit_of u }
-{
-    match u {
-        Unit16::Hex { unit } => unit,
-        Unit16::NoHex { place: _ } => 0,
-    }
+    let a = digit_at(s, i)?;
+    let b = digit_at(s, i + 1)?;
+    let c = digit_at(s, i + 2)?;
+    let d = digit_at(s, i + 3)?;
+    Ok(a * 4096 + b * 256 + c * 16 + d)
 }
 
 // The unit that an escape of four digits at a place stands for; 0 where none stands there whole.
@@ -201,29 +149,24 @@ fn escaped_at(s: &[u8], i: usize) -> u32
     requires { i < 2 ^ 63 + 8 }
     ensures { result ≡ escaped_at s.now i }
 {
-    if number_at(s, i) != 92 {
-        return 0;
+    if number_at(s, i) == 92 && number_at(s, i + 1) == 117 {
+        unit_at(s, i + 2).unwrap_or(0)
+    } else {
+        0
     }
-    if number_at(s, i + 1) != 117 {
-        return 0;
-    }
-    unit_of(unit_at(s, i + 2))
 }
 
 fn is_pair(high: u32, low: u32) -> bool
     ensures { result ≡ is_pair high low }
 {
-    if is_within(0xD800, 0xDBFF, high) {
-        return is_within(0xDC00, 0xDFFF, low);
-    }
-    false
+    is_within(0xD800, 0xDBFF, high) && is_within(0xDC00, 0xDFFF, low)
 }
 
 // The character of an escape of four digits whose backslash stands at i: with the low surrogate
 // right behind it where it is a high one, else by itself.
 fn joined_at(s: &[u8], i: usize, unit: u32) -> Step
     requires { i < length s.now }
-    ensures { result ≡ surrogates_joined s.now i (Unit16.Hex unit) }
+    ensures { result ≡ surrogates_joined s.now i (Ok unit) }
 {
     let low = escaped_at(s, i + 6);
     if is_pair(unit, low) {
@@ -236,27 +179,18 @@ fn joined_at(s: &[u8], i: usize, unit: u32) -> Step
     }
 }
 
-// The unit of an escape whose four digits begin with two zeros, its backslash at i; 256 for any other.
+// The unit of an escape whose four digits begin with two zeros, its backslash at i; none for any other.
 // Most escapes are such.
-fn low_unit_at(s: &[u8], i: usize) -> u32
+fn low_unit_at(s: &[u8], i: usize) -> Option<u32>
     requires { i < length s.now }
-    ensures { result < 256 → unit_at s.now (i + 2) ≡ Unit16.Hex result }
+    ensures { IfSome result (λ u. (u < 256) × (unit_at s.now (i + 2) ≡ Ok u)) }
 {
-    if number_at(s, i + 2) != 48 {
-        return 256;
+    if number_at(s, i + 2) != 48 || number_at(s, i + 3) != 48 {
+        return None;
     }
-    if number_at(s, i + 3) != 48 {
-        return 256;
-    }
-    let a = digit_at(s, i + 4);
-    if 16 <= a {
-        return 256;
-    }
-    let b = digit_at(s, i + 5);
-    if 16 <= b {
-        return 256;
-    }
-    a * 16 + b
+    let a = hex_digit(number_at(s, i + 4))?;
+    let b = hex_digit(number_at(s, i + 5))?;
+    Some(a * 16 + b)
 }
 
 // An escape of four digits, its backslash at i.
@@ -264,16 +198,12 @@ fn unit_escape_at(s: &[u8], i: usize) -> Step
     requires { i < length s.now }
     ensures { result ≡ surrogates_joined s.now i (unit_at s.now (i + 2)) }
 {
-    let low = low_unit_at(s, i);
-    if low < 256 {
-        return Step::Char {
-            code: low,
-            next: i + 6,
-        };
+    if let Some(code) = low_unit_at(s, i) {
+        return Step::Char { code, next: i + 6 };
     }
     match unit_at(s, i + 2) {
-        Unit16::Hex { unit } => joined_at(s, i, unit),
-        Unit16::NoHex { place } => Step::Bad { kind: 11, place },
+        Ok(unit) => joined_at(s, i, unit),
+        Err(place) => Step::Bad { kind: 11, place },
     }
 }
 
@@ -286,13 +216,12 @@ fn escape_at(s: &[u8], i: usize) -> Step
     if letter == 117 {
         return unit_escape_at(s, i);
     }
-    let code = letter_escape(letter);
-    if 0 < code {
-        return Step::Char { code, next: i + 2 };
-    }
-    Step::Bad {
-        kind: 11,
-        place: i + 1,
+    match letter_escape(letter) {
+        Some(code) => Step::Char { code, next: i + 2 },
+        None => Step::Bad {
+            kind: 11,
+            place: i + 1,
+        },
     }
 }
 

@@ -5,9 +5,8 @@ use mathlib.Core.Path.{◌≡◌, refl}
 use mathlib.Core.List.{List, [], ◌∷◌, map}
 use Rattle.json_date.proofs.Opens.{open-dates}
 use Rattle.json_chars.specs.Chars.{chars_at}
-use Rattle.json_date.specs.declared.Date.{Date}
-use Rattle.json_date.specs.declared.Date.TheVariants.{Day, NoDate}
-use Rattle.json_date.specs.Date.{date_of}
+use Rattle.std.specs.Prelude.{Some, None}
+use Rattle.json_date.specs.Date.{Date, day_in, date_of}
 
 abbrev date_in : List ℕ → Date
 date_in s = date_of (chars_at s 0)
@@ -28,6 +27,6 @@ dates =
     (34 ∷ 50 ∷ 48 ∷ 48 ∷ 48 ∷ 92 ∷ 117 ∷ 48 ∷ 48 ∷ 50 ∷ 100 ∷ 48 ∷ 50 ∷ 45 ∷ 50 ∷ 57 ∷ 34 ∷ []) ∷  -- `"2000\u002d02-29"`, an escaped dash is a dash
     []
 
-pub worked : map date_in dates ≡ (Day 2000 2 29 ∷ NoDate ∷ Day 2024 2 29 ∷ NoDate ∷ NoDate ∷ NoDate ∷ Day 1 1 1 ∷ Day 9999 12 31 ∷ NoDate ∷ NoDate ∷ Day 2000 2 29 ∷ [])
+pub worked : map date_in dates ≡ (Some (day_in 2000 2 29) ∷ None ∷ Some (day_in 2024 2 29) ∷ None ∷ None ∷ None ∷ Some (day_in 1 1 1) ∷ Some (day_in 9999 12 31) ∷ None ∷ None ∷ Some (day_in 2000 2 29) ∷ [])
 unfolding open-dates
 worked = refl

@@ -15,11 +15,11 @@ use Rattle.json_chars.specs.Chars.{chars_at}
 use Rattle.json_chars.specs.declared.Step.TheVariants.{Char, Close, Bad}
 use Rattle.json_chars.proofs.Bounds.{step-good, Good}
 use Rattle.json_chars.proofs.Walk.{Left, Taken, take-char, take-close, take-bad, opened, unopened}
-use Rattle.json_date.specs.declared.Date.TheVariants.{NoDate}
+use Rattle.std.specs.Prelude.{None}
 use Rattle.json_date.specs.Date.{date_of}
 use Rattle.json_date.proofs.Laws.{not-ten}
 
-pub none-there : (s : List ℕ) (at : ℕ) → (byte_at s at ≡ 34 → ⊥) → date_of (chars_at s at) ≡ NoDate
+pub none-there : (s : List ℕ) (at : ℕ) → (byte_at s at ≡ 34 → ⊥) → date_of (chars_at s at) ≡ None
 none-there s at n = not-ten (chars_at s at) (λ q. omega (arith, q, ap length (unopened s at n)))
 
 pub record Collected (s : List ℕ) (i : ℕ) (c : List ℕ) (n : ℕ) (whole : List ℕ) : Type 0 where
@@ -56,7 +56,7 @@ module _ (s : List ℕ) (i : ℕ) (c : List ℕ) (n : ℕ) (whole : List ℕ) (w
         }
 
     -- an eleventh character
-    pub collect-over : 10 ≤ n → date_of whole ≡ NoDate
+    pub collect-over : 10 ≤ n → date_of whole ≡ None
     collect-over l =
         let t : Taken s code next w.cs = take-char s i w.cs w.left code next e in
         not-ten whole (λ q. omega (arith, one-over c n code whole w.cs t.others (omega (arith, w.size, w.fits)) w.split t.first))

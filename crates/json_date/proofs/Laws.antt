@@ -1,7 +1,7 @@
 -- What a date's form gives, and the bounds of a day that is one.
 -- Assumes nothing.
 use Prim.Native.Nat.{ℕ, ◌+◌, ◌*◌, ◌≤◌}
-use mathlib.Core.Path.{◌≡◌}
+use mathlib.Core.Path.{◌≡◌, ap}
 use mathlib.Core.Bool.{true, false, ◌&&◌, ◌||◌}
 use mathlib.Core.List.{List}
 use native.Mathlib.Omega.{arith}
@@ -10,9 +10,9 @@ use lib.ListN.{length, get_or}
 use lib.Dec.{eqb}
 use Rattle.json_bytes.specs.Reads.{within}
 use Rattle.json_bytes.proofs.Laws.{by-test, both_left, both_right, within-from, within-to}
-use Rattle.json_date.specs.declared.Date.{Date}
-use Rattle.json_date.specs.declared.Date.TheVariants.{Day, NoDate}
-use Rattle.json_date.specs.Date.{is_leap, month_days, is_day, all_digits_at, two_at, has_form, year_of, month_of, day_of, date_of}
+use Rattle.std.specs.Prelude.{Some, None}
+use Rattle.json_date.specs.declared.Day.{Day}
+use Rattle.json_date.specs.Date.{Date, day_in, is_leap, month_days, is_day, all_digits_at, two_at, has_form, year_of, month_of, day_of, date_of}
 
 -- ---- a number between two others
 pub lies_within : (lo hi x : ℕ) → lo ≤ x → x ≤ hi → within lo hi x ≡ true
@@ -61,20 +61,20 @@ form cs e =
 
 -- ---- the date, by the form and then by the calendar
 module _ (cs : List ℕ) where
-  pub no-form : has_form cs ≡ false → date_of cs ≡ NoDate
+  pub no-form : has_form cs ≡ false → date_of cs ≡ None
   unfolding date_of
   no-form f = rw f
 
-  pub not-ten : (length cs ≡ 10 → ⊥) → date_of cs ≡ NoDate
+  pub not-ten : (length cs ≡ 10 → ⊥) → date_of cs ≡ None
   unfolding date_of has_form
   not-ten n = rw (ne_eqb (length cs) 10 n)
 
   module _ (century year m d : ℕ) (ec : century ≡ two_at cs 0) (ey : year ≡ two_at cs 2) (em : m ≡ two_at cs 5) (ed : d ≡ two_at cs 8) (f : has_form cs ≡ true) where
-    pub is-date : is_day (century * 100 + year) m d ≡ true → date_of cs ≡ Day (century * 100 + year) m d
+    pub is-date : is_day (century * 100 + year) m d ≡ true → date_of cs ≡ Some (day_in (century * 100 + year) m d)
     unfolding date_of year_of month_of day_of
     is-date t = rw (f, ← ec, ← ey, ← em, ← ed, t)
 
-    pub no-day : is_day (century * 100 + year) m d ≡ false → date_of cs ≡ NoDate
+    pub no-day : is_day (century * 100 + year) m d ≡ false → date_of cs ≡ None
     unfolding date_of year_of month_of day_of
     no-day t = rw (f, ← ec, ← ey, ← em, ← ed, t)
 
@@ -87,16 +87,16 @@ month-most y m =
     (λ _. by-test (λ (n : ℕ). n ≤ 31) (eqb m 4 || (eqb m 6 || (eqb m 9 || eqb m 11))) 30 31 (λ _. omega arith) (λ _. omega arith))
 
 -- ---- and none has fewer than 28: the 28th and the days before it stand in every month
-month-least : (y m : ℕ) → 28 ≤ month_days y m
+pub month_least : (y m : ℕ) → 28 ≤ month_days y m
 unfolding month_days
-month-least y m =
+month_least y m =
     by-test (λ (n : ℕ). 28 ≤ n) (eqb m 2) _ _
     (λ _. by-test (λ (n : ℕ). 28 ≤ n) (is_leap y) 29 28 (λ _. omega arith) (λ _. omega arith))
     (λ _. by-test (λ (n : ℕ). 28 ≤ n) (eqb m 4 || (eqb m 6 || (eqb m 9 || eqb m 11))) 30 31 (λ _. omega arith) (λ _. omega arith))
 
-pub day-early : (y m d : ℕ) → within 1 28 d ≡ true → within 1 (month_days y m) d ≡ true
-day-early y m d e =
-    lies_within 1 (month_days y m) d (within-from 1 28 d e) (omega (arith, within-to 1 28 d e, month-least y m))
+pub day_early : (y m d : ℕ) → within 1 28 d ≡ true → within 1 (month_days y m) d ≡ true
+day_early y m d e =
+    lies_within 1 (month_days y m) d (within-from 1 28 d e) (omega (arith, within-to 1 28 d e, month_least y m))
 
 -- ---- a day of a date lies in years 1 to 9999, months 1 to 12 and days 1 to the month's last, 31 at most
 pub record Dated (y m d : ℕ) : Type 0 where
@@ -125,10 +125,10 @@ day-dated y m d e =
       day-to = omega (arith, within-to 1 (month_days y m) d day, month-most y m);
     }
 
-pub date-dated : (cs : List ℕ) (y m d : ℕ) → date_of cs ≡ Day y m d → Dated y m d
+pub date-dated : (cs : List ℕ) (y m d : ℕ) → date_of cs ≡ Some (day_in y m d) → Dated y m d
 unfolding date_of
 date-dated cs y m d =
-    by-test (λ (r : Date). r ≡ Day y m d → Dated y m d) (has_form cs && is_day (year_of cs) (month_of cs) (day_of cs)) (Day (year_of cs) (month_of cs) (day_of cs)) NoDate
-    (λ t e. let p : y ≡ year_of cs = cc in let q : m ≡ month_of cs = cc in let r : d ≡ day_of cs = cc in
-    rw (p, q, r) (day-dated (year_of cs) (month_of cs) (day_of cs) (both_right (has_form cs) _ t)))
+    by-test (λ (r : Date). r ≡ Some (day_in y m d) → Dated y m d) (has_form cs && is_day (year_of cs) (month_of cs) (day_of cs)) (Some (day_in (year_of cs) (month_of cs) (day_of cs))) None
+    (λ t e. let day : day_in y m d ≡ day_in (year_of cs) (month_of cs) (day_of cs) = cc in
+    rw (ap (λ (a : Day). a.year) day, ap (λ (a : Day). a.month) day, ap (λ (a : Day). a.day) day) (day-dated (year_of cs) (month_of cs) (day_of cs) (both_right (has_form cs) _ t)))
     (λ _ e. let z : ◌≡◌ {A = ℕ} 0 1 = cc in absurd (omega arith))

@@ -18,11 +18,10 @@ use Rattle.json_chars.specs.Chars.{chars_at}
 use Rattle.json_chars.specs.declared.Step.TheVariants.{Char}
 use Rattle.json_chars.proofs.Walk.{own-step}
 use Rattle.json_chars.proofs.Plain.{Own, chars-plain}
-use Rattle.json_date.specs.declared.Date.{Date}
-use Rattle.json_date.specs.declared.Date.TheVariants.{Day, NoDate}
-use Rattle.json_date.specs.Date.{is_day, all_digits_at, two_at, has_form, year_of, month_of, day_of, date_of}
-use Rattle.json_date.specs.Plain.{is_told, is_plain_date, is_two_of}
-use Rattle.json_date.proofs.Laws.{Digit, first-digit, second-digit, form, no-form, lies_within, day-early}
+use Rattle.std.specs.Prelude.{None}
+use Rattle.json_date.specs.Date.{Date, is_day, all_digits_at, two_at, has_form, year_of, month_of, day_of, date_of}
+use Rattle.json_date.specs.Plain.{is_told, is_plain_date, is_two_of, is_early_day}
+use Rattle.json_date.proofs.Laws.{Digit, first-digit, second-digit, form, no-form, lies_within, day_early}
 
 -- ---- the bytes from a place on, one by one
 up_to : ℕ → List ℕ → ℕ → ℕ → List ℕ
@@ -90,10 +89,10 @@ module _ (s : List ℕ) (at : ℕ) (l : at + 11 < length s) (ten : List ℕ) (is
       rw (ap (λ (cs : List ℕ). get_or cs (k - (at + 1)) 0) is_ten ∙ byte_of s 10 (at + 1) (k - (at + 1)) (omega arith) (omega arith) ∙ ap (byte_at s) place) at (graphic ten e (k - (at + 1)) (omega arith))
 
   -- ---- the date of ten bytes between two quotes: none, or that of the string
-  pub plain-or-none : byte_at s at ≡ 34 → byte_at s (at + 11) ≡ 34 → (r : Date) → r ≡ date_of ten → (r ≡ NoDate) ⊎ (r ≡ date_of (chars_at s at))
+  pub plain-or-none : byte_at s at ≡ 34 → byte_at s (at + 11) ≡ 34 → (r : Date) → r ≡ date_of ten → (r ≡ None) ⊎ (r ≡ date_of (chars_at s at))
   plain-or-none quote close r is_date = go (has_form ten) refl
     where
-      go : (t : Bool) → has_form ten ≡ t → (r ≡ NoDate) ⊎ (r ≡ date_of (chars_at s at))
+      go : (t : Bool) → has_form ten ≡ t → (r ≡ None) ⊎ (r ≡ date_of (chars_at s at))
       go false e = inl (is_date ∙ no-form ten e)
       go true e =
           let own : Own s (at + 1) (at + 11) = λ k a b. graphic-step s k (form-byte e k a b) in
@@ -101,24 +100,15 @@ module _ (s : List ℕ) (at : ℕ) (l : at + 11 < length s) (ten : List ℕ) (is
           let ten-long : (at + 11) - (at + 1) ≡ 10 = omega arith in
           inr (is_date ∙ ap date_of (is_ten ∙ sym (rw ten-long at chars)))
 
--- a day is no 'none'
-pub plain-day : (r d : Date) (y m n : ℕ) → (r ≡ NoDate) ⊎ (r ≡ d) → r ≡ Day y m n → Day y m n ≡ d
-plain-day r d y m n e is = ⊎_elim (λ q. absurd (differ (sym is ∙ q))) (λ q. sym is ∙ q) e
-  where
-    differ : Day y m n ≡ NoDate → ⊥
-    differ q = let z : ◌≡◌ {A = ℕ} 0 1 = cc in omega arith
-
 -- ---- a date as it stands between two quotes: its bytes, and that the string is a date
 told-form : (cs : List ℕ) → is_told (date_of cs) ≡ true → has_form cs ≡ true
-unfolding is_told
 told-form cs t = go (has_form cs) refl
   where
     go : (f : Bool) → has_form cs ≡ f → has_form cs ≡ true
     go true e = e
     go false e = absurd (false≢true (rw (no-form cs e) at t))
 
-told-whole : (r d : Date) → (r ≡ NoDate) ⊎ (r ≡ d) → is_told r ≡ true → is_told d ≡ true
-unfolding is_told
+told-whole : (r d : Date) → (r ≡ None) ⊎ (r ≡ d) → is_told r ≡ true → is_told d ≡ true
 told-whole r d e t = ⊎_elim (λ q. absurd (false≢true (rw q at t))) (λ q. rw q at t) e
 
 pub record PlainDate (s : List ℕ) (at : ℕ) : Type 0 where
@@ -177,12 +167,35 @@ module _ (a b c d : ℕ) (ea : within 49 57 a ≡ true) (eb : within 48 57 b ≡
       lies_within 1 9999 _ (omega (arith, within-from 49 57 a ea))
       (omega (arith, within-to 49 57 a ea, within-to 48 57 b eb, within-to 48 57 c ec, within-to 48 57 d ed))
 
-  early-told : (m e f n g h : ℕ) → m ≡ 45 → n ≡ 45 → is_two_of e f 12 ≡ true → is_two_of g h 28 ≡ true → is_told (date_of (a ∷ b ∷ c ∷ d ∷ m ∷ e ∷ f ∷ n ∷ g ∷ h ∷ [])) ≡ true
-  unfolding is_told date_of has_form is_day all_digits_at two_at year_of month_of day_of
-  early-told m e f n g h em en month day =
+  early_bytes : (m e f n g h : ℕ) → m ≡ 45 → n ≡ 45 → is_two_of e f 12 ≡ true → is_two_of g h 28 ≡ true → is_told (date_of (a ∷ b ∷ c ∷ d ∷ m ∷ e ∷ f ∷ n ∷ g ∷ h ∷ [])) ≡ true
+  unfolding date_of has_form is_day all_digits_at two_at year_of month_of day_of
+  early_bytes m e f n g h em en month day =
       let mo = two e f 12 month in
       let da = two g h 28 day in
-      rw (eq-eqb m 45 em, eq-eqb n 45 en, first-of-year, eb, ec, ed, mo.tens, mo.ones, da.tens, da.ones, year-from-1000, mo.number, day-early _ _ _ da.number)
+      rw (eq-eqb m 45 em, eq-eqb n 45 en, first-of-year, eb, ec, ed, mo.tens, mo.ones, da.tens, da.ones, year-from-1000, mo.number, day_early _ _ _ da.number)
 
-pub early-at : (s : List ℕ) (i : ℕ) → i + 10 ≤ length s → byte_at s (i + 4) ≡ 45 → byte_at s (i + 7) ≡ 45 → within 49 57 (byte_at s i) ≡ true → within 48 57 (byte_at s (i + 1)) ≡ true → within 48 57 (byte_at s (i + 2)) ≡ true → within 48 57 (byte_at s (i + 3)) ≡ true → is_two_of (byte_at s (i + 5)) (byte_at s (i + 6)) 12 ≡ true → is_two_of (byte_at s (i + 8)) (byte_at s (i + 9)) 28 ≡ true → is_told (date_of (take 10 (drop i s))) ≡ true
-early-at s i l m n a b c d month day = rw (ten-bytes s i l) (early-told _ _ _ _ a b c d _ _ _ _ _ _ m n month day)
+pub early_told : (s : List ℕ) (i : ℕ) → is_early_day s i ≡ true → i + 10 ≤ length s → is_told (date_of (take 10 (drop i s))) ≡ true
+unfolding is_early_day
+early_told s i e l =
+    let behind = both_right (eqb (byte_at s (i + 4)) 45) _ e in
+    let year = both_right (eqb (byte_at s (i + 7)) 45) _ behind in
+    let hundreds = both_right (within 49 57 (byte_at s i)) _ year in
+    let tens = both_right (within 48 57 (byte_at s (i + 1))) _ hundreds in
+    let ones = both_right (within 48 57 (byte_at s (i + 2))) _ tens in
+    let days = both_right (within 48 57 (byte_at s (i + 3))) _ ones in
+    rw (ten-bytes s i l)
+    (early_bytes _ _ _ _
+    (both_left (within 49 57 (byte_at s i)) _ year)
+    (both_left (within 48 57 (byte_at s (i + 1))) _ hundreds)
+    (both_left (within 48 57 (byte_at s (i + 2))) _ tens)
+    (both_left (within 48 57 (byte_at s (i + 3))) _ ones)
+    _ _ _ _ _ _
+    (eqb-true (byte_at s (i + 4)) 45 (both_left (eqb (byte_at s (i + 4)) 45) _ e))
+    (eqb-true (byte_at s (i + 7)) 45 (both_left (eqb (byte_at s (i + 7)) 45) _ behind))
+    (both_left (is_two_of (byte_at s (i + 5)) (byte_at s (i + 6)) 12) _ days)
+    (both_right (is_two_of (byte_at s (i + 5)) (byte_at s (i + 6)) 12) _ days))
+
+pub early_plain : (s : List ℕ) (at : ℕ) → byte_at s at ≡ 34 → byte_at s (at + 11) ≡ 34 → is_early_day s (at + 1) ≡ true → at + 11 < length s → is_plain_date s at ≡ true
+unfolding is_plain_date
+early_plain s at quote end early l =
+    rw (eq-eqb (byte_at s at) 34 quote, eq-eqb (byte_at s (at + 11)) 34 end) (early_told s (at + 1) early (omega arith))

@@ -1,9 +1,16 @@
 -- A date from the characters of a string. Document 01: "`yyyy-mm-dd`, decoded, years 0001 to 9999, Gregorian. Any other
--- string in a Date field is 17", here NoDate.
-use Rattle.std.specs.Prelude.{ℕ, ◌+◌, ◌*◌, ◌-◌, ◌%◌, Bool, cond, not, ◌&&◌, ◌||◌, List, length, get_or, eqb}
+-- string in a Date field is 17", here None.
+use Rattle.std.specs.Prelude.{ℕ, ◌+◌, ◌*◌, ◌-◌, ◌%◌, Bool, cond, not, ◌&&◌, ◌||◌, List, Option, Some, None, length, get_or, eqb}
 use Rattle.json_bytes.specs.Reads.{within}
-use Rattle.json_date.specs.declared.Date.{Date}
-use Rattle.json_date.specs.declared.Date.TheVariants.{Day, NoDate}
+use Rattle.json_date.specs.declared.Day.{Day}
+
+-- what a string is: a day, or none
+abbrev pub Date : Type 0
+Date = Option Day
+
+-- a day by its year, its month and its number in the month
+abbrev pub day_in : ℕ → ℕ → ℕ → Day
+day_in y m d = record { year = y; month = m; day = d }
 
 -- ---- The Gregorian calendar
 -- a year is a leap year if 400 divides it, or 4 does and 100 does not
@@ -40,4 +47,4 @@ day_of cs = two_at cs 8
 
 -- ---- The date: the form, and a day of the calendar
 unfoldable pub date_of : List ℕ → Date
-date_of cs = cond (has_form cs && is_day (year_of cs) (month_of cs) (day_of cs)) (Day (year_of cs) (month_of cs) (day_of cs)) NoDate
+date_of cs = cond (has_form cs && is_day (year_of cs) (month_of cs) (day_of cs)) (Some (day_in (year_of cs) (month_of cs) (day_of cs))) None

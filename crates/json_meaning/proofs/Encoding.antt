@@ -1,6 +1,7 @@
 -- UTF-8: what stands as itself in a string is the Standard's encoding of its code, every such encoding is read, and the
 -- code of a character is a scalar value, or a surrogate that an escape leaves unpaired.
 -- Assumes nothing.
+use Rattle.std.specs.Prelude.{Ok, Err}
 use Prim.Native.Nat.{ℕ, ◌+◌, ◌-◌, ◌*◌, ◌≤◌, ◌<◌}
 use mathlib.Core.Path.{◌≡◌, refl, sym, ap, ◌∙◌}
 use mathlib.Core.Bool.{Bool, true, false, cond}
@@ -13,11 +14,9 @@ use lib.ListN.{length, take, drop}
 use lib.Dec.{ltb, eqb}
 use Rattle.json_bytes.specs.Reads.{byte_at, within}
 use Rattle.json_bytes.proofs.Laws.{by-test, inside, within-from, within-to}
-use Rattle.json_chars.specs.Step.{is_two, is_three, is_four, sequence_of, sequence_at, letter_escape, digit_at, unit_at, escaped_at, is_pair, surrogates_joined, escape_at, step_at}
+use Rattle.json_chars.specs.Step.{is_two, is_three, is_four, sequence_of, sequence_at, letter_escape, digit_at, unit_at, escaped_at, is_pair, surrogates_joined, escape_at, step_at, Unit16}
 use Rattle.json_chars.specs.declared.Step.{Step}
 use Rattle.json_chars.specs.declared.Step.TheVariants.{Char, Close, Bad}
-use Rattle.json_chars.specs.declared.Unit16.{Unit16}
-use Rattle.json_chars.specs.declared.Unit16.TheVariants.{Hex, NoHex}
 use Rattle.json_chars.proofs.Laws.{pair-high, pair-low}
 use Rattle.json_chars.proofs.Bounds.{step-good}
 use Rattle.json_meaning.specs.Unicode.{is_scalar, is_surrogate, encoded, EncodedAt, Raw, Unpaired}
@@ -213,7 +212,7 @@ one-sequence s i m t j n code a b = spelled s i m a.encoding ∙ sym (spelled t 
 -- ---- Escapes
 module _ (s : List ℕ) (i : ℕ) where
   -- four digits make a unit of sixteen bits, or a fault
-  unit-small : {u : ℕ} → unit_at s i ≡ Hex u → u ≤ 0xFFFF
+  unit-small : {u : ℕ} → unit_at s i ≡ Ok u → u ≤ 0xFFFF
   unfolding unit_at
   unit-small {u} =
       by-test Then (ltb (digit_at s i) 16) _ _
@@ -232,9 +231,9 @@ module _ (s : List ℕ) (i : ℕ) where
       (λ _. none)
     where
       Then : Unit16 → Type 0
-      Then x = x ≡ Hex u → u ≤ 0xFFFF
+      Then x = x ≡ Ok u → u ≤ 0xFFFF
 
-      none : {p : ℕ} → Then (NoHex p)
+      none : {p : ℕ} → Then (Err p)
       none q =
           let z : ◌≡◌ {A = ℕ} 0 1 = cc in
           absurd (omega arith)
@@ -250,7 +249,7 @@ letter-small b =
 
 module _ (s : List ℕ) (i : ℕ) where
   -- what an escape is: a fault, a pair, a unit for itself, or a letter
-  pub by-escape : (P : Step → Type 0) → ((place : ℕ) → P (Bad 11 place)) → ((u : ℕ) → is_pair u (escaped_at s (i + 6)) ≡ true → P (Char (0x10000 + (u - 0xD800) * 1024 + (escaped_at s (i + 6) - 0xDC00)) (i + 12))) → ((u : ℕ) → byte_at s (i + 1) ≡ 0x75 → unit_at s (i + 2) ≡ Hex u → is_pair u (escaped_at s (i + 6)) ≡ false → P (Char u (i + 6))) → P (Char (letter_escape (byte_at s (i + 1))) (i + 2)) → P (escape_at s i)
+  pub by-escape : (P : Step → Type 0) → ((place : ℕ) → P (Bad 11 place)) → ((u : ℕ) → is_pair u (escaped_at s (i + 6)) ≡ true → P (Char (0x10000 + (u - 0xD800) * 1024 + (escaped_at s (i + 6) - 0xDC00)) (i + 12))) → ((u : ℕ) → byte_at s (i + 1) ≡ 0x75 → unit_at s (i + 2) ≡ Ok u → is_pair u (escaped_at s (i + 6)) ≡ false → P (Char u (i + 6))) → P (Char (letter_escape (byte_at s (i + 1))) (i + 2)) → P (escape_at s i)
   unfolding escape_at surrogates_joined
   by-escape P fault pair unit letter =
       by-test P (eqb (byte_at s (i + 1)) 117) _ _
@@ -258,8 +257,8 @@ module _ (s : List ℕ) (i : ℕ) where
       (λ _. by-test P (ltb 0 (letter_escape (byte_at s (i + 1)))) _ _ (λ _. letter) (λ _. fault (i + 1)))
     where
       by-unit : (x : Unit16) → unit_at s (i + 2) ≡ x → byte_at s (i + 1) ≡ 0x75 → P (surrogates_joined s i x)
-      by-unit (NoHex p) q e = fault p
-      by-unit (Hex u) q e = by-test P (is_pair u (escaped_at s (i + 6))) _ _ (λ t. pair u t) (λ t. unit u e q t)
+      by-unit (Err p) q e = fault p
+      by-unit (Ok u) q e = by-test P (is_pair u (escaped_at s (i + 6))) _ _ (λ t. pair u t) (λ t. unit u e q t)
 
   module _ (code next : ℕ) where
     Known : Type 0
@@ -273,7 +272,7 @@ module _ (s : List ℕ) (i : ℕ) where
         (scalar-says code).1
         (omega (arith, within-to 0xD800 0xDBFF u high, within-to 0xDC00 0xDFFF low behind), inr (omega arith))
 
-    unit-code : (u : ℕ) → byte_at s i ≡ 0x5C → byte_at s (i + 1) ≡ 0x75 → unit_at s (i + 2) ≡ Hex u → is_pair u (escaped_at s (i + 6)) ≡ false → Char u (i + 6) ≡ Char code next → Known
+    unit-code : (u : ℕ) → byte_at s i ≡ 0x5C → byte_at s (i + 1) ≡ 0x75 → unit_at s (i + 2) ≡ Ok u → is_pair u (escaped_at s (i + 6)) ≡ false → Char u (i + 6) ≡ Char code next → Known
     unfolding Known is_surrogate
     unit-code u b e q t f = go (within 0xD800 0xDFFF code) refl
       where

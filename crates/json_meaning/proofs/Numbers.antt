@@ -1,6 +1,7 @@
 -- A number read whole is written by a sign, digits, a fraction and an exponent, ends where it cannot go on, and has the value
 -- that they write.
 -- Assumes nothing.
+use Rattle.std.specs.Prelude.{Ok}
 use Prim.Native.Nat.{ℕ, suc, ◌+◌, ◌-◌, ◌*◌, ◌^◌, ◌<◌}
 use mathlib.Core.Path.{◌≡◌, refl, sym, ap, ◌∙◌}
 use mathlib.Core.Bool.{Bool, true, false, true≢false}
@@ -13,8 +14,7 @@ use lib.ListN.{length, get_or, take, drop, length-append}
 use lib.Seq.{length-take-le, get_or-drop}
 use lib.Pow.{pow-add}
 use lib.Dec.{eqb}
-use Rattle.json_bytes.specs.Reads.{byte_at, within, leading}
-use Rattle.json_bytes.specs.declared.Reading.TheVariants.{Whole, Fault}
+use Rattle.json_bytes.specs.Reads.{byte_at, within, leading, fault_at}
 use Rattle.json_bytes.proofs.Laws.{by-test, leading-bound}
 use Rattle.json_number.specs.Number.{
   is_digit,
@@ -111,10 +111,10 @@ pointed-some (d ∷ ds) n = refl
 -- ---- What is read, part by part: a reading that comes to be whole is a number's
 module _ (s : List ℕ) (at end : ℕ) where
   Then : Number → Type 0
-  Then n = n.reading ≡ Whole end → NumberOf s at end n.value
+  Then n = n.reading ≡ Ok end → NumberOf s at end n.value
 
   -- a reading that stops is not whole
-  stops : {place : ℕ} → Fault 11 place ≡ Whole end → ⊥
+  stops : {place : ℕ} → fault_at 11 place ≡ Ok end → ⊥
   stops q =
       let z : ◌≡◌ {A = ℕ} 0 1 = cc in
       omega arith
@@ -133,7 +133,7 @@ module _ (s : List ℕ) (at end : ℕ) where
     With mark power = record { negative = negative; whole = whole; fraction = fraction; mark = mark; power = power }
 
     -- the exponent is known, and with it the number
-    ends-number : {i : ℕ} (mark power : List ℕ) (below : Bool) {last e : ℕ} → Before i → IsExponent mark power → Stands s i (mark ++ power) last → Ended (With mark power) (byte_at s last) → below ≡ has_minus mark → e ≡ digits_value power → Then (record { reading = Whole last; value = value_of negative (trimmed digits) (end_zeros digits) (length fraction) below e })
+    ends-number : {i : ℕ} (mark power : List ℕ) (below : Bool) {last e : ℕ} → Before i → IsExponent mark power → Stands s i (mark ++ power) last → Ended (With mark power) (byte_at s last) → below ≡ has_minus mark → e ≡ digits_value power → Then (record { reading = Ok last; value = value_of negative (trimmed digits) (end_zeros digits) (length fraction) below e })
     unfolding Then number_bytes
     ends-number mark power below {last} before is_exponent stands ended b e q =
         let ends : last ≡ end = cc in
@@ -176,7 +176,7 @@ module _ (s : List ℕ) (at end : ℕ) where
         (λ _. power-read letter [] k false before here (omega arith) alone refl))
 
     -- no exponent
-    none_read : {i : ℕ} → Before i → eqb (byte_at s i) 101 ≡ false → eqb (byte_at s i) 69 ≡ false → Then (record { reading = Whole i; value = value_of negative (trimmed digits) (end_zeros digits) (length fraction) false 0 })
+    none_read : {i : ℕ} → Before i → eqb (byte_at s i) 101 ≡ false → eqb (byte_at s i) 69 ≡ false → Then (record { reading = Ok i; value = value_of negative (trimmed digits) (end_zeros digits) (length fraction) false 0 })
     unfolding all_digits digits_value
     none_read {i} before e f =
         ends-number [] [] false before (record { digits = refl; begins = inl (refl, refl) }) (stands-none s i)
@@ -246,7 +246,7 @@ module _ (s : List ℕ) (at end : ℕ) where
 
 -- ---- A number read whole is written by the grammar from its place up to its end, cannot go on there, and its value in the one
 -- form is exactly what its digits and its exponent write; it is beyond the limits exactly if that form is
-pub number-means : (s : List ℕ) (at end : ℕ) → (number_at s at).reading ≡ Whole end → NumberOf s at end (number_at s at).value
+pub number-means : (s : List ℕ) (at end : ℕ) → (number_at s at).reading ≡ Ok end → NumberOf s at end (number_at s at).value
 unfolding number_at Then
 number-means s at end =
     by-test (Then s at end) (eqb (byte_at s at) 45) _ _

@@ -1,6 +1,7 @@
 -- The first wrong character that the reader finds is the first that breaks a rule over the decoded characters, with the
 -- lowest rule that it breaks, at the place where it is written.
 -- Assumes nothing.
+use Rattle.std.specs.Prelude.{Ok}
 use Prim.Native.Nat.{ℕ, zero, suc, ◌+◌, ◌-◌, ◌≤◌, ◌<◌}
 use mathlib.Core.Path.{◌≡◌, refl, sym, ap, ◌∙◌}
 use mathlib.Core.Bool.{Bool, true, false, cond, ◌||◌, true≢false, or_comm}
@@ -11,8 +12,7 @@ use native.Mathlib.Omega.{arith}
 use borrow.Author.Tests.{eq-eqb, ne_eqb, lt-ltb}
 use lib.ListN.{length, get_or}
 use lib.Dec.{eqb}
-use Rattle.json_bytes.specs.Reads.{byte_at, within}
-use Rattle.json_bytes.specs.declared.Reading.TheVariants.{Whole}
+use Rattle.json_bytes.specs.Reads.{byte_at}
 use Rattle.json_bytes.proofs.Laws.{inside}
 use Rattle.json_chars.specs.Step.{step_at}
 use Rattle.json_chars.specs.Chars.{chars_at}
@@ -214,7 +214,7 @@ module _ (ty : TextType) where
       same = between k j (not-later f g) (not-later g f)
 
 -- ---- The laws
-module _ (ty : TextType) (s : List ℕ) (at end : ℕ) (whole : text_read_at s at ≡ Whole end) where
+module _ (ty : TextType) (s : List ℕ) (at end : ℕ) (whole : text_read_at s at ≡ Ok end) where
   abbrev NoneBreaks : Type 0
   NoneBreaks = (k n : ℕ) → k < length (chars_at s at) → breaks_rule ty (chars_at s at) k n ≡ false
 

@@ -1,8 +1,7 @@
 -- UTF-8 as the Unicode Standard has it, and what it is for a character to stand in a file as itself.
-use Rattle.std.specs.Prelude.{ℕ, ◌+◌, ◌/◌, ◌%◌, ◌≤◌, ◌≡◌, Bool, true, false, cond, ◌||◌, List, [], ◌∷◌, leb}
+use Rattle.std.specs.Prelude.{ℕ, ◌+◌, ◌/◌, ◌%◌, ◌≤◌, ◌≡◌, Bool, true, false, cond, ◌||◌, List, [], ◌∷◌, leb, Ok}
 use Rattle.json_bytes.specs.Reads.{byte_at, within}
 use Rattle.json_chars.specs.Step.{unit_at, escaped_at, is_pair}
-use Rattle.json_chars.specs.declared.Unit16.TheVariants.{Hex}
 use Rattle.json_meaning.specs.Stands.{Stands}
 
 -- the Standard, D76: a scalar value is a code point, from 0 to 10FFFF, that is no surrogate
@@ -40,6 +39,6 @@ pub record Unpaired (s : List ℕ) (i code next : ℕ) : Type 0 where
   pub surrogate : is_surrogate code ≡ true
   pub backslash : byte_at s i ≡ 0x5C
   pub letter : byte_at s (i + 1) ≡ 0x75
-  pub digits : unit_at s (i + 2) ≡ Hex code
+  pub digits : unit_at s (i + 2) ≡ Ok code
   pub alone : is_pair code (escaped_at s (i + 6)) ≡ false
   pub ends : next ≡ i + 6

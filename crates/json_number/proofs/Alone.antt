@@ -1,5 +1,6 @@
 -- A number of one digit: what follows does not go on, so the digit is all of it.
 -- Assumes nothing.
+use Rattle.std.specs.Prelude.{Ok}
 use Prim.Native.Nat.{ℕ, ◌+◌, ◌*◌, ◌-◌, ◌≤◌, ◌<◌}
 use mathlib.Core.Path.{◌≡◌, refl, sym, ap, ◌∙◌}
 use mathlib.Core.Bool.{Bool, true, false, ◌||◌}
@@ -10,7 +11,6 @@ use borrow.Author.Tests.{ne_eqb, eqb-false}
 use lib.ListN.{length, drop}
 use lib.Dec.{eqb, lit≤}
 use Rattle.json_bytes.specs.Reads.{byte_at}
-use Rattle.json_bytes.specs.declared.Reading.TheVariants.{Whole}
 use Rattle.json_bytes.proofs.Laws.{inside, by-test, run_more, run-stops, run_ends}
 use Rattle.json_number.specs.Number.{is_digit, digits_at, formed, trimmed_at, fraction_at, coefficient_at, exponent_at, largest, within_limits, value_of, with_exponent, with_coefficient, number_at, whole_of, integer_of}
 use Rattle.json_number.specs.Alone.{goes_on, one_digit}
@@ -85,7 +85,7 @@ pub digit-coefficient : (s : List ℕ) (i : ℕ) → is_digit (byte_at s i) ≡ 
 digit-coefficient s i d n = one-coefficient s i d n
 
 -- ---- The number
-pub digit-alone : (s : List ℕ) (negative : Bool) (i : ℕ) → is_digit (byte_at s i) ≡ true → goes_on (byte_at s (i + 1)) ≡ false → with_coefficient s negative (coefficient_at s i) ≡ record { reading = Whole (i + 1); value = value_of negative (byte_at s i - 48) 0 0 false 0 }
+pub digit-alone : (s : List ℕ) (negative : Bool) (i : ℕ) → is_digit (byte_at s i) ≡ true → goes_on (byte_at s (i + 1)) ≡ false → with_coefficient s negative (coefficient_at s i) ≡ record { reading = Ok (i + 1); value = value_of negative (byte_at s i - 48) 0 0 false 0 }
 unfolding with_coefficient with_exponent
 digit-alone s negative i d n =
     let o : Off (byte_at s (i + 1)) = off (byte_at s (i + 1)) n in
@@ -96,7 +96,7 @@ digit-alone s negative i d n =
     ap (with_coefficient s negative) k ∙ ap (with_exponent negative (byte_at s i - 48) 0 0) x
 
 -- the same from what the code has in hand: the digit b, the byte n behind it, and the value v of b as a wider number w
-pub alone-is : (s : List ℕ) (negative : Bool) (i : ℕ) {b n w : ℕ} {v : Value} → b ≡ byte_at s i → is_digit b ≡ true → n ≡ byte_at s (i + 1) → goes_on n ≡ false → w ≡ b → v ≡ value_of negative (w - 48) 0 0 false 0 → record { reading = Whole (i + 1); value = v } ≡ with_coefficient s negative (coefficient_at s i)
+pub alone-is : (s : List ℕ) (negative : Bool) (i : ℕ) {b n w : ℕ} {v : Value} → b ≡ byte_at s i → is_digit b ≡ true → n ≡ byte_at s (i + 1) → goes_on n ≡ false → w ≡ b → v ≡ value_of negative (w - 48) 0 0 false 0 → record { reading = Ok (i + 1); value = v } ≡ with_coefficient s negative (coefficient_at s i)
 alone-is s negative i is d behind n wide value =
     rw (value, wide, is) (sym (digit-alone s negative i (ap is_digit (sym is) ∙ d) (ap goes_on (sym behind) ∙ n)))
 
@@ -125,7 +125,7 @@ own-integer c l = ap integer_of (own_value c l) ∙ go (ℕ_discrete c 0)
 alone-integer : (s : List ℕ) (i : ℕ) → is_digit (byte_at s i) ≡ true → goes_on (byte_at s (i + 1)) ≡ false → Is false (byte_at s i - 48) ≡ integer_of (number_at s i).value
 alone-integer s i d stops =
     let range : (48 ≤ byte_at s i) × (byte_at s i ≤ 57) = digit-range (byte_at s i) d in
-    let number : number_at s i ≡ record { reading = Whole (i + 1); value = value_of false (byte_at s i - 48) 0 0 false 0 } = number-plain s i (byte_at s i) refl (omega (arith, range.0)) ∙ digit-alone s false i d stops in
+    let number : number_at s i ≡ record { reading = Ok (i + 1); value = value_of false (byte_at s i - 48) 0 0 false 0 } = number-plain s i (byte_at s i) refl (omega (arith, range.0)) ∙ digit-alone s false i d stops in
     sym (own-integer (byte_at s i - 48) (omega (arith, range.1))) ∙ ap (λ (v : Number). integer_of v.value) (sym number)
 
 -- what decides the digit, from what the code has in hand: the byte b, the byte n behind it, and b as a wider number w

@@ -1,13 +1,13 @@
 -- The number cases of document 01, "Both sides of each line" (P2 to P6), as order 1 of document 02 reads them, and the edges beside them, by computation.
 -- Assumes nothing.
+use Rattle.json_bytes.specs.Reads.{Reading, fault_at}
+use Rattle.std.specs.Prelude.{Ok}
 use Prim.Native.Nat.{ℕ}
 use mathlib.Core.Path.{◌≡◌, refl}
 use mathlib.Core.Bool.{Bool, true, false}
 use mathlib.Core.List.{List, [], ◌∷◌, map}
 use Rattle.json_number.proofs.Opens.{open-numbers}
 use Rattle.json_bytes.specs.Ascii.{codes}
-use Rattle.json_bytes.specs.declared.Reading.{Reading}
-use Rattle.json_bytes.specs.declared.Reading.TheVariants.{Whole, Fault}
 use Rattle.json_number.specs.Number.{number_at, integer_of, sign_of, same_value}
 use Rattle.json_number.specs.Short.{short_end}
 use Rattle.json_number.specs.declared.Value.{Value}
@@ -46,26 +46,26 @@ texts =
 
 abbrev answers : List (Reading × Value × Integer × Sign)
 answers =
-    (Whole 5, Fits false 1 15, Is false 1, Above)
-    ∷ (Whole 3, Fits false 5 14, Fraction, Above)
-    ∷ (Whole 2, Fits false 0 15, Is false 0, Zero)
-    ∷ (Whole 15, Fits false 999999999999999 15, Is false 999999999999999, Above)
-    ∷ (Whole 16, Fits false 1 30, TooLarge, Above)
-    ∷ (Whole 4, Fits false 1 30, TooLarge, Above)
-    ∷ (Whole 5, Beyond, TooLarge, Zero)
-    ∷ (Whole 4, Fits false 0 15, Is false 0, Zero)
-    ∷ (Whole 4, Fits false 0 15, Is false 0, Zero)
-    ∷ (Whole 18, Fits false 8 15, Is false 8, Above)
-    ∷ (Whole 5, Beyond, TooLarge, Zero)
-    ∷ (Whole 18, Beyond, TooLarge, Zero)
-    ∷ (Whole 20, Fits false 1 0, Fraction, Above)
-    ∷ (Whole 8, Fits true 15 0, Fraction, Below)
-    ∷ (Whole 7, Beyond, TooLarge, Zero)
-    ∷ (Whole 1, Fits false 0 15, Is false 0, Zero)
-    ∷ (Fault 11 2, Beyond, TooLarge, Zero)
-    ∷ (Fault 11 1, Beyond, TooLarge, Zero)
-    ∷ (Fault 11 3, Beyond, TooLarge, Zero)
-    ∷ (Fault 11 0, Beyond, TooLarge, Zero)
+    (Ok 5, Fits false 1 15, Is false 1, Above)
+    ∷ (Ok 3, Fits false 5 14, Fraction, Above)
+    ∷ (Ok 2, Fits false 0 15, Is false 0, Zero)
+    ∷ (Ok 15, Fits false 999999999999999 15, Is false 999999999999999, Above)
+    ∷ (Ok 16, Fits false 1 30, TooLarge, Above)
+    ∷ (Ok 4, Fits false 1 30, TooLarge, Above)
+    ∷ (Ok 5, Beyond, TooLarge, Zero)
+    ∷ (Ok 4, Fits false 0 15, Is false 0, Zero)
+    ∷ (Ok 4, Fits false 0 15, Is false 0, Zero)
+    ∷ (Ok 18, Fits false 8 15, Is false 8, Above)
+    ∷ (Ok 5, Beyond, TooLarge, Zero)
+    ∷ (Ok 18, Beyond, TooLarge, Zero)
+    ∷ (Ok 20, Fits false 1 0, Fraction, Above)
+    ∷ (Ok 8, Fits true 15 0, Fraction, Below)
+    ∷ (Ok 7, Beyond, TooLarge, Zero)
+    ∷ (Ok 1, Fits false 0 15, Is false 0, Zero)
+    ∷ (fault_at 11 2, Beyond, TooLarge, Zero)
+    ∷ (fault_at 11 1, Beyond, TooLarge, Zero)
+    ∷ (fault_at 11 3, Beyond, TooLarge, Zero)
+    ∷ (fault_at 11 0, Beyond, TooLarge, Zero)
     ∷ []
 
 abbrev same : List ℕ × List ℕ → Bool

@@ -5,8 +5,7 @@ use mathlib.Core.Path.{◌≡◌, refl}
 use mathlib.Core.Bool.{Bool}
 use mathlib.Core.List.{List, [], ◌∷◌, map}
 use lib.Dec.{eqb}
-use Rattle.json_bytes.specs.Reads.{byte_at}
-use Rattle.json_bytes.specs.declared.Reading.TheVariants.{Fault}
+use Rattle.json_bytes.specs.Reads.{byte_at, fault_at}
 use Rattle.json_bytes.proofs.Laws.{either}
 use Rattle.json_bytes.proofs.FaultKinds.{Faults}
 use Rattle.json_number.specs.Number.{coefficient_at, exponent_at, with_exponent, with_coefficient, number_at}
@@ -41,6 +40,6 @@ module _ (s : List ℕ) where
       (coefficient-kinds _ (coefficient_at s at))
 
 -- each is given: no digit stands in `-`
-pub number-given : map (λ s. (number_at s 0).reading) ((45 ∷ []) ∷ []) ≡ map (λ kind. Fault kind 1) number_kinds
+pub number-given : map (λ s. (number_at s 0).reading) ((45 ∷ []) ∷ []) ≡ map (λ kind. fault_at kind 1) number_kinds
 unfolding open-numbers
 number-given = refl

@@ -1,6 +1,7 @@
 -- Laws for those who read numbers: where one ends or stops, that its value is within the limits and in its form, and that
 -- equality by value is one and, of values in their form, equality of the form.
 -- Assumes nothing.
+use Rattle.std.specs.Prelude.{Ok}
 use Prim.Native.Nat.{ℕ, ◌+◌, ◌*◌, ◌/◌, ◌%◌, ◌^◌, ◌≤◌, ◌<◌}
 use mathlib.Core.Path.{◌≡◌, refl, sym, ap, ◌∙◌}
 use mathlib.Core.Bool.{Bool, true, false, cond, ◌&&◌}
@@ -12,8 +13,7 @@ use borrow.Author.Tests.{eq-eqb, ne_eqb, eqb-true}
 use lib.ListN.{length, drop}
 use lib.Dec.{leb, eqb}
 use lib.Pow.{pow-add}
-use Rattle.json_bytes.specs.Reads.{byte_at}
-use Rattle.json_bytes.specs.declared.Reading.TheVariants.{Whole, Fault}
+use Rattle.json_bytes.specs.Reads.{byte_at, fault_at}
 use Rattle.json_bytes.proofs.Laws.{by-test}
 use Rattle.json_number.specs.Number.{
   digits_at,
@@ -54,11 +54,11 @@ use Rattle.json_number.proofs.Scale.{ten-pos, nonzero, test-swap, same-outside, 
 
 -- ---- The reading
 -- a number read whole ends behind its first byte and within the file
-pub whole_in : (s : List ℕ) (at : ℕ) {end : ℕ} → (number_at s at).reading ≡ Whole end → (at < end) × (end ≤ length s)
+pub whole_in : (s : List ℕ) (at : ℕ) {end : ℕ} → (number_at s at).reading ≡ Ok end → (at < end) × (end ≤ length s)
 whole_in s at e = rw e at (number-in s at)
 
 -- a fault's place is one from the number's on that is at most the file's length if the number's is
-pub fault-in : (s : List ℕ) (at : ℕ) {kind place : ℕ} → (number_at s at).reading ≡ Fault kind place → (at ≤ place) × (at ≤ length s → place ≤ length s)
+pub fault-in : (s : List ℕ) (at : ℕ) {kind place : ℕ} → (number_at s at).reading ≡ fault_at kind place → (at ≤ place) × (at ≤ length s → place ≤ length s)
 fault-in s at e = rw e at (number-in s at)
 
 -- ---- The value

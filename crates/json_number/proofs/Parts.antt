@@ -1,5 +1,6 @@
 -- The parts of a number, each by the bytes and runs of digits that the code has looked at.
 -- Assumes nothing.
+use Rattle.std.specs.Prelude.{Ok}
 use Prim.Native.Nat.{ℕ, ◌+◌, ◌-◌, ◌^◌, ◌≤◌, ◌<◌, min}
 use mathlib.Core.Path.{◌≡◌, refl, ap}
 use mathlib.Core.Bool.{Bool, true, false}
@@ -14,7 +15,6 @@ use Rattle.json_number.specs.declared.Coefficient.{Coefficient}
 use Rattle.json_number.specs.declared.Coefficient.TheVariants.{Digits, NoDigit}
 use Rattle.json_number.specs.declared.Exponent.{Exponent}
 use Rattle.json_number.specs.declared.Value.{Value}
-use Rattle.json_bytes.specs.declared.Reading.TheVariants.{Whole}
 use Rattle.json_number.specs.declared.Exponent.TheVariants.{Power, NoPower}
 use Rattle.json_number.proofs.Digits.{run_none, run-some}
 use Rattle.json_number.proofs.Limits.{c-capped, e-capped}
@@ -100,7 +100,7 @@ exponent-bound (NoPower p) {r} {end} {below} {e} q w =
     omega arith
 
 module _ (negative : Bool) (c trailing fraction : ℕ) where
-  pub exponent-stands : trailing < 2 ^ 63 → fraction < 2 ^ 63 → (x : Exponent) {r : Exponent} {end : ℕ} {below : Bool} {e : ℕ} {v : Value} → r ≡ capped_exponent x → r ≡ Power end below e → v ≡ value_of negative c trailing fraction below e → record { reading = Whole end; value = v } ≡ with_exponent negative c trailing fraction x
+  pub exponent-stands : trailing < 2 ^ 63 → fraction < 2 ^ 63 → (x : Exponent) {r : Exponent} {end : ℕ} {below : Bool} {e : ℕ} {v : Value} → r ≡ capped_exponent x → r ≡ Power end below e → v ≡ value_of negative c trailing fraction below e → record { reading = Ok end; value = v } ≡ with_exponent negative c trailing fraction x
   unfolding with_exponent
   exponent-stands k f (Power end' below' e') {r} {end} {below} {e} {v} q w h =
       let ends : end ≡ end' = cc in

@@ -1,5 +1,6 @@
 -- Where the parts of a number end or stop.
 -- Assumes nothing.
+use Rattle.std.specs.Prelude.{Ok, Err}
 use Prim.Native.Nat.{ℕ, ◌+◌, ◌-◌, ◌≤◌, ◌<◌}
 use mathlib.Core.Path.{◌≡◌, refl}
 use mathlib.Core.Bool.{Bool, true, false, cond, ◌||◌}
@@ -8,9 +9,7 @@ use native.Mathlib.Omega.{arith}
 use borrow.Author.Tests.{eqb-true, eqb-false}
 use lib.ListN.{length, drop, length-drop}
 use lib.Dec.{eqb, lit<}
-use Rattle.json_bytes.specs.Reads.{byte_at}
-use Rattle.json_bytes.specs.declared.Reading.{Reading}
-use Rattle.json_bytes.specs.declared.Reading.TheVariants.{Whole, Fault}
+use Rattle.json_bytes.specs.Reads.{byte_at, Reading}
 use Rattle.json_bytes.proofs.Laws.{by-test, inside, leading-bound}
 use Rattle.json_number.specs.Number.{
   is_digit,
@@ -54,8 +53,8 @@ ExponentIn s j (Power end below e) = (j < end) × (end ≤ length s)
 ExponentIn s j (NoPower place) = (j ≤ place) × (place ≤ length s)
 
 abbrev pub ReadingIn : List ℕ → ℕ → Reading → Type 0
-ReadingIn s j (Whole end) = (j < end) × (end ≤ length s)
-ReadingIn s j (Fault kind place) = (j ≤ place) × (j ≤ length s → place ≤ length s)
+ReadingIn s j (Ok end) = (j < end) × (end ≤ length s)
+ReadingIn s j (Err e) = (j ≤ e.place) × (j ≤ length s → e.place ≤ length s)
 
 fraction-in : (s : List ℕ) (j i c : ℕ) → j < i → i ≤ length s → end_zeros c ≤ i → CoefficientIn s j (fraction_at s i c)
 unfolding fraction_at

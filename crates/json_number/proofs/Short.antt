@@ -1,5 +1,6 @@
 -- A number of at most fifteen digits and no exponent: it is read whole, and its value is within the limits.
 -- Assumes nothing.
+use Rattle.std.specs.Prelude.{Ok}
 use Prim.Native.Nat.{ℕ, suc, ◌+◌, ◌*◌, ◌-◌, ◌^◌, ◌≤◌, ◌<◌}
 use mathlib.Core.Path.{◌≡◌, refl, sym, ap, ◌∙◌}
 use mathlib.Core.Bool.{Bool, true, false, cond, not, ◌||◌, false≢true}
@@ -11,7 +12,6 @@ use borrow.Author.Tests.{eq-eqb, ne_eqb, lt-ltb, le-ltb, eqb-true, eqb-false, lt
 use lib.ListN.{length, drop}
 use lib.Dec.{eqb, ltb, lit<}
 use Rattle.json_bytes.specs.Reads.{byte_at, leading}
-use Rattle.json_bytes.specs.declared.Reading.TheVariants.{Whole}
 use Rattle.json_bytes.proofs.Laws.{run_more, run-stops, run_ends}
 use Rattle.json_number.specs.Number.{is_digit, digits_at, formed, end_zeros, trimmed, trimmed_at, fraction_at, coefficient_at, exponent_at, value_of, with_exponent, with_coefficient, number_at}
 use Rattle.json_number.specs.Short.{behind_sign, is_short, unless_raised, short_behind, short_from, short_end}
@@ -118,13 +118,13 @@ pub record FitsUpTo (n : Number) (j : ℕ) : Type 0 where
   pub negative : Bool
   pub c : ℕ
   pub p15 : ℕ
-  pub read : n ≡ record { reading = Whole j; value = Fits negative c p15 }
+  pub read : n ≡ record { reading = Ok j; value = Fits negative c p15 }
 
 few-fit : (negative : Bool) (c fraction end : ℕ) → c < 10 ^ 15 → fraction ≤ 15 → FitsUpTo (with_exponent negative (trimmed c) (end_zeros c) fraction (Power end false 0)) end
 unfolding with_exponent
 few-fit negative c fraction end h f = go (ℕ_discrete c 0) (ℕ_discrete (trimmed c) 0)
   where
-    go : Dec (c ≡ 0) → Dec (trimmed c ≡ 0) → FitsUpTo (record { reading = Whole end; value = value_of negative (trimmed c) (end_zeros c) fraction false 0 }) end
+    go : Dec (c ≡ 0) → Dec (trimmed c ≡ 0) → FitsUpTo (record { reading = Ok end; value = value_of negative (trimmed c) (end_zeros c) fraction false 0 }) end
     go z (yes o) = record { negative = false; c = 0; p15 = 15; read = rw (value-zero negative (trimmed c) (end_zeros c) fraction false 0 o) }
     go (yes z) (no o) = absurd (o (ap trimmed z ∙ trimmed-zero))
     go (no n) (no o) =

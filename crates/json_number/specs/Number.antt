@@ -1,9 +1,8 @@
 -- A JSON number where it stands: its end or its fault, and its value as document 01, "Numbers", counts it, in the one form
 -- that order 1 of document 02 asks for.
 -- Source of the grammar: ECMA-404, section 8. Values here are unbounded: no number of digits is too large to have one.
-use Rattle.std.specs.Prelude.{ℕ, zero, suc, ◌+◌, ◌*◌, ◌-◌, ◌/◌, ◌%◌, ◌^◌, ◌≡◌, Bool, true, false, cond, not, ◌&&◌, ◌||◌, List, [], ◌∷◌, drop, leb, eqb}
-use Rattle.json_bytes.specs.Reads.{byte_at, within, leading}
-use Rattle.json_bytes.specs.declared.Reading.TheVariants.{Whole, Fault}
+use Rattle.std.specs.Prelude.{ℕ, zero, suc, ◌+◌, ◌*◌, ◌-◌, ◌/◌, ◌%◌, ◌^◌, ◌≡◌, Bool, true, false, cond, not, ◌&&◌, ◌||◌, List, [], ◌∷◌, drop, leb, eqb, Ok}
+use Rattle.json_bytes.specs.Reads.{byte_at, within, leading, fault_at}
 use Rattle.json_number.specs.declared.Coefficient.{Coefficient}
 use Rattle.json_number.specs.declared.Coefficient.TheVariants.{Digits, NoDigit}
 use Rattle.json_number.specs.declared.Exponent.{Exponent}
@@ -102,11 +101,11 @@ InForm negative c p15 = (c ≡ 0 → (negative ≡ false) × (p15 ≡ 15)) × ((
 -- ---- A number, read whole
 -- no number can go on at a place: kind 11 there, and no value
 abbrev pub stopped_at : ℕ → Number
-stopped_at place = record { reading = Fault 11 place; value = Beyond }
+stopped_at place = record { reading = fault_at 11 place; value = Beyond }
 
 unfoldable pub with_exponent : Bool → ℕ → ℕ → ℕ → Exponent → Number
 with_exponent negative c trailing fraction (Power end below e) =
-    record { reading = Whole end; value = value_of negative c trailing fraction below e }
+    record { reading = Ok end; value = value_of negative c trailing fraction below e }
 with_exponent negative c trailing fraction (NoPower place) = stopped_at place
 
 unfoldable pub with_coefficient : List ℕ → Bool → Coefficient → Number

@@ -1,7 +1,7 @@
 // Numbers: where one ends, its value in one form, and what the rules ask of a value.
 // No run of digits, however long, wraps or is read twice: a number that digits form is kept up to
 // ten to the nineteenth, which is beyond every limit.
-#![tactic(auto)]
+#![tactic(auto, unfolding(json_bytes::specs::Reads::within, crate::specs::Number::is_digit, crate::specs::Number::within_limits, crate::specs::Alone::goes_on, crate::specs::Short::behind_sign, crate::specs::Short::is_short, crate::specs::Short::unless_raised))]
 
 ghost use Rattle.std.specs.Prelude.{◌≡◌, cond, ℕ, ◌+◌, ◌*◌, ◌-◌, ◌^◌, ◌≤◌, ◌<◌, min, length, drop, eqb};
 ghost use Rattle.json_number.specs.Number.{is_digit, digits_at, formed, fraction_at, coefficient_at, power_digits_at, signed_at, exponent_at, value_of, stopped_at, with_exponent, with_coefficient, number_at, largest, within_limits, whole_of, integer_of, sign_of, magnitude, same_parts, same_value};
@@ -9,7 +9,7 @@ ghost use Rattle.json_number.specs.Alone.{goes_on, one_digit};
 ghost use Rattle.json_number.specs.Short.{behind_sign, is_short, unless_raised, short_behind, short_end};
 ghost use Rattle.json_number.specs.Capped.{cap, capped_coefficient, capped_exponent, Carried};
 
-use json_bytes::{Reading, byte_at, is_within};
+use json_bytes::{Fault, Reading, byte_at};
 
 // The largest c within the limits, and the largest magnitude of an Integer.
 const LARGEST: u64 = 999_999_999_999_999;
@@ -93,7 +93,7 @@ fn wide(b: u8) -> u64
 fn is_digit(b: u8) -> bool
     ensures { result ≡ is_digit b }
 {
-    is_within(48, 57, b as u32)
+    (b'0'..=b'9').contains(&b)
 }
 
 // One digit more behind those that form `value`.
@@ -111,10 +111,7 @@ fn joined(value: u64, b: u8) -> u64
 fn kept_behind(kept: u64, value: u64, b: u8) -> u64
     ensures { result ≡ cond (eqb b 48) kept value }
 {
-    if b == b'0' {
-        return kept;
-    }
-    value
+    if b == b'0' { kept } else { value }
 }
 
 // How many zeros end a number once the digit b stands behind it. Zero has none.
@@ -122,13 +119,7 @@ fn zeros_behind(kept: u64, zeros: usize, b: u8) -> usize
     requires { zeros < 2 ^ 63 }
     ensures { result ≡ cond (eqb b 48) (cond (eqb kept 0) 0 (zeros + 1)) 0 }
 {
-    if b != b'0' {
-        return 0;
-    }
-    if kept == 0 {
-        return 0;
-    }
-    zeros + 1
+    if b != b'0' || kept == 0 { 0 } else { zeros + 1 }
 }
 
 // The digits from `at` on, behind those of a number x: what is carried of x goes on to what is
@@ -313,7 +304,7 @@ fn stopped(place: usize) -> Number
     ensures { result ≡ stopped_at place }
 {
     Number {
-        reading: Reading::Fault { kind: 11, place },
+        reading: Err(Fault { kind: 11, place }),
         value: Value::Beyond,
     }
 }
@@ -328,7 +319,7 @@ fn powered_at(s: &[u8], at: usize, negative: bool, c: u64, zeros: usize, fractio
         Exponent::Power { end, below, size } => {
             let value = value_of(negative, c, zeros as u64, fraction as u64, below, size);
             Number {
-                reading: Reading::Whole { end },
+                reading: Ok(end),
                 value,
             }
         }
@@ -356,16 +347,7 @@ fn several_at(s: &[u8], at: usize, negative: bool) -> Number
 fn goes_on(b: u8) -> bool
     ensures { result ≡ goes_on b }
 {
-    if is_digit(b) {
-        return true;
-    }
-    if b == b'.' {
-        return true;
-    }
-    if b == b'e' {
-        return true;
-    }
-    b == b'E'
+    is_digit(b) || b == b'.' || b == b'e' || b == b'E'
 }
 
 // A number without its sign. Most are one digit, which is then read without a loop.
@@ -382,7 +364,7 @@ fn unsigned_at(s: &[u8], at: usize, negative: bool) -> Number
     }
     let value = value_of(negative, wide(b) - 48, 0, 0, false, 0);
     Number {
-        reading: Reading::Whole { end },
+        reading: Ok(end),
         value,
     }
 }
@@ -427,30 +409,17 @@ fn behind_sign(s: &[u8], at: usize) -> usize
 fn is_short(s: &[u8], from: usize, n: usize) -> bool
     ensures { result ≡ is_short s.now from n }
 {
-    if n == 0 {
-        return false;
-    }
-    if n == 1 {
-        return true;
-    }
-    if 15 < n {
-        return false;
-    }
-    byte_at(s, from) != b'0'
+    n == 1 || (1 < n && n <= 15 && byte_at(s, from) != b'0')
 }
 
 // The end of a number, unless an exponent's letter stands there: then 0.
 fn unless_raised(s: &[u8], end: usize) -> usize
     ensures { result ≡ unless_raised s.now end }
 {
-    let b = byte_at(s, end);
-    if b == b'e' {
-        return 0;
+    match byte_at(s, end) {
+        b'e' | b'E' => 0,
+        _ => end,
     }
-    if b == b'E' {
-        return 0;
-    }
-    end
 }
 
 // The end of a short number whose digits before the point go from `from` up to `whole`. With a point its
@@ -491,23 +460,14 @@ fn ten_to(n: u32) -> u64
     requires { n ≤ 15 }
     ensures { result ≡ 10 ^ n }
 {
-    let mut power: u64 = 1;
-    let mut i: u32 = 0;
-    while i < n {
-        power = power * 10;
-        i += 1;
-    }
-    power
+    10u64.pow(n)
 }
 
 // Whether c and p, kept as p + 15, are within the limits.
 fn within_limits(c: u64, p15: u32) -> bool
     ensures { result ≡ within_limits c p15 }
 {
-    if LARGEST < c {
-        return false;
-    }
-    p15 <= 30
+    c <= LARGEST && p15 <= 30
 }
 
 // The value of c and p, kept as p + 15, as an Integer: below 15 digits of c stand behind the point,

@@ -7,9 +7,9 @@
 ghost use Rattle.std.specs.Prelude.{◌+◌, ◌≤◌, length};
 
 use bundle_bytes::word_at;
-use json_bytes::{Reading, literal_at, skip_spaces};
+use json_bytes::{Fault, literal_at, skip_spaces};
 use json_chars::{Step, step_at};
-use json_date::{Date, date_at};
+use json_date::{Day, date_at};
 use json_number::{Integer, Sign, Value, integer_of, number_at, same_value, sign_of};
 use json_same::{Case, same_text, text_is};
 use json_text::{TextType, read_text};
@@ -26,21 +26,12 @@ struct Answer {
 
 // What stands before the bytes of a case: n of A and m of B.
 #[derive(Clone, Copy)]
-enum Header {
-    Asks {
-        op: u32,
-        at: usize,
-        other: u32,
-        n: usize,
-        m: usize,
-    },
-    Nothing,
-}
-
-#[derive(Clone, Copy)]
-enum Next {
-    Answered(Answer),
-    End,
+struct Header {
+    op: u32,
+    at: usize,
+    other: u32,
+    n: usize,
+    m: usize,
 }
 
 fn numbers(t: u64, a: u64, b: u64, c: u64) -> Answer {
@@ -61,18 +52,17 @@ fn yes_or_no(yes: bool) -> Answer {
 
 fn literal(s: &[u8], at: usize) -> Answer {
     match literal_at(s, at) {
-        Reading::Whole { end } => numbers(0, end as u64, 0, 0),
-        Reading::Fault { kind, place } => fault(1, kind, place),
+        Ok(end) => numbers(0, end as u64, 0, 0),
+        Err(Fault { kind, place }) => fault(1, kind, place),
     }
 }
 
 fn text(s: &[u8], at: usize, ty: TextType) -> Answer {
     let read = read_text(s, at, ty);
-    let reading = read.reading;
     let wrong = read.wrong;
-    match reading {
-        Reading::Whole { end } => numbers(0, end as u64, wrong.rule as u64, wrong.place as u64),
-        Reading::Fault { kind, place } => fault(1, kind, place),
+    match read.reading {
+        Ok(end) => numbers(0, end as u64, wrong.rule as u64, wrong.place as u64),
+        Err(Fault { kind, place }) => fault(1, kind, place),
     }
 }
 
@@ -95,8 +85,8 @@ fn character(s: &[u8], at: usize) -> Answer {
 
 fn day(s: &[u8], at: usize) -> Answer {
     match date_at(s, at) {
-        Date::Day { year, month, day } => numbers(0, year as u64, month as u64, day as u64),
-        Date::NoDate => only(1),
+        Some(Day { year, month, day }) => numbers(0, year as u64, month as u64, day as u64),
+        None => only(1),
     }
 }
 
@@ -108,14 +98,12 @@ fn signed(negative: bool, p15: u32) -> u64 {
 
 fn number(s: &[u8], at: usize) -> Answer {
     let read = number_at(s, at);
-    let reading = read.reading;
-    let value = read.value;
-    match reading {
-        Reading::Whole { end } => match value {
+    match read.reading {
+        Ok(end) => match read.value {
             Value::Fits { negative, c, p15 } => numbers(0, end as u64, c, signed(negative, p15)),
             Value::Beyond => numbers(2, end as u64, 0, 0),
         },
-        Reading::Fault { kind, place } => fault(1, kind, place),
+        Err(Fault { kind, place }) => fault(1, kind, place),
     }
 }
 
@@ -132,22 +120,18 @@ fn integer(v: Value) -> Answer {
 
 fn integer_at(s: &[u8], at: usize) -> Answer {
     let read = number_at(s, at);
-    let reading = read.reading;
-    let value = read.value;
-    match reading {
-        Reading::Whole { end: _ } => integer(value),
-        Reading::Fault { kind: _, place: _ } => only(3),
+    match read.reading {
+        Ok(_) => integer(read.value),
+        Err(_) => only(3),
     }
 }
 
 // The value of the number at a place; where none is whole, it is beyond the limits too.
 fn value_at(s: &[u8], at: usize) -> Value {
     let read = number_at(s, at);
-    let reading = read.reading;
-    let value = read.value;
-    match reading {
-        Reading::Whole { end: _ } => value,
-        Reading::Fault { kind: _, place: _ } => Value::Beyond,
+    match read.reading {
+        Ok(_) => read.value,
+        Err(_) => Value::Beyond,
     }
 }
 
@@ -203,45 +187,38 @@ fn answer_of(op: u32, s: &[u8], at: usize, t: &[u8], other: u32) -> Answer {
     }
 }
 
-fn read_header(rt: &impl Host) -> Header {
+// What stands before the next case; none where the input ends.
+fn read_header(rt: &impl Host) -> Option<Header> {
     let mut bytes = [0u8; 20];
     if !fill(&mut rt.input(), &mut bytes) {
-        return Header::Nothing;
+        return None;
     }
-    Header::Asks {
+    Some(Header {
         op: word_at(&bytes, 0),
         at: word_at(&bytes, 4) as usize,
         other: word_at(&bytes, 8),
         n: word_at(&bytes, 12) as usize,
         m: word_at(&bytes, 16) as usize,
-    }
+    })
 }
 
-// The answer to the next case, whose bytes of A and B go to the front of two buffers.
-fn next_answer(rt: &impl Host, a: &mut [u8], b: &mut [u8]) -> Next {
-    let Header::Asks {
+// The answer to the next case, whose bytes of A and B go to the front of two buffers; none where the input ends or a
+// case is too long.
+fn next_answer(rt: &impl Host, a: &mut [u8], b: &mut [u8]) -> Option<Answer> {
+    let Header {
         op,
         at,
         other,
         n,
         m,
-    } = read_header(rt)
-    else {
-        return Next::End;
-    };
-    if a.len() < n {
-        return Next::End;
+    } = read_header(rt)?;
+    if a.len() < n || b.len() < m {
+        return None;
     }
-    if b.len() < m {
-        return Next::End;
+    if !fill(&mut rt.input(), &mut a[..n]) || !fill(&mut rt.input(), &mut b[..m]) {
+        return None;
     }
-    if !fill(&mut rt.input(), &mut a[..n]) {
-        return Next::End;
-    }
-    if !fill(&mut rt.input(), &mut b[..m]) {
-        return Next::End;
-    }
-    Next::Answered(answer_of(op, &a[..n], at, &b[..m], other))
+    Some(answer_of(op, &a[..n], at, &b[..m], other))
 }
 
 // Writes an answer into 32 bytes.
@@ -259,8 +236,8 @@ fn answer_some(rt: &impl Host, a: &mut [u8], b: &mut [u8], out: &mut [u8]) -> bo
     let mut used = 0;
     while used + 32 <= out.len() {
         match next_answer(rt, a, b) {
-            Next::Answered(answer) => put_answer(out, used, answer),
-            Next::End => {
+            Some(answer) => put_answer(out, used, answer),
+            None => {
                 write_out(rt, &out[..used]);
                 return false;
             }

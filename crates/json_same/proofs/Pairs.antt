@@ -1,25 +1,23 @@
 -- Two strings side by side, byte by byte: what a pair of bytes tells, one turn of a run of pairs, and what holds where it ends.
 -- Assumes nothing.
-use Prim.Native.Nat.{ℕ, ◌+◌, ◌-◌, ◌≤◌, ◌<◌}
+use Prim.Native.Nat.{ℕ, ◌+◌, ◌-◌, ◌≤◌, ◌<◌, min}
 use mathlib.Core.Path.{◌≡◌, refl, sym, ap, ◌∙◌}
 use mathlib.Core.Bool.{Bool, true, false, cond, ◌&&◌}
 use mathlib.Core.List.{List, [], ◌∷◌}
-use mathlib.Core.Logic.{◌⊎◌, inl, inr}
 use native.Mathlib.Numerals.{add-one}
 use native.Mathlib.Omega.{arith}
-use borrow.Author.Tests.{eq-eqb, ne_eqb, eqb-true, eqb-false}
+use borrow.Author.Tests.{eqb-true, eqb-false, ltb-true, ltb-false}
 use borrow.Author.Rules.{part_to_end}
 use lib.ListN.{length, take, drop, length-drop, drop_of_length-le}
 use lib.Seq.{drop-cons}
-use lib.Dec.{eqb}
+use lib.Dec.{eqb, ltb}
 use Rattle.json_bytes.specs.Reads.{byte_at}
 use Rattle.json_bytes.proofs.Laws.{both_left, both_right}
 use Rattle.json_same.specs.declared.Case.{Case}
 use Rattle.json_same.specs.declared.Pair.{Pair}
 use Rattle.json_same.specs.declared.Pair.TheVariants.{Same, Apart, Other}
-use Rattle.json_same.specs.declared.Run.{Run}
-use Rattle.json_same.specs.declared.Run.TheVariants.{Differs, Stops}
 use Rattle.json_same.specs.Same.{cased_as, is_plain}
+use Rattle.std.specs.Prelude.{Option, Some, None}
 use Rattle.json_same.specs.Walk.{pair_of, run_from}
 
 -- ---- a pair
@@ -40,26 +38,6 @@ pub record Plain (p q : ℕ) (T : Type 0) : Type 0 where
   pub compared : T
 
 module _ (case : Case) (p q : ℕ) where
-  pub pair-equal : p ≡ q → is_plain p ≡ true → pair_of case p q ≡ Same
-  unfolding pair_of
-  pair-equal e t = rw (← e, t, eq-eqb (cased_as case p) _ refl)
-
-  pub pair-unplain : is_plain p ≡ false → pair_of case p q ≡ Other
-  unfolding pair_of
-  pair-unplain f = rw f
-
-  pub pair_same : (is_plain p && is_plain q) ≡ true → cased_as case p ≡ cased_as case q → pair_of case p q ≡ Same
-  unfolding pair_of
-  pair_same t e = rw (t, eq-eqb _ _ e)
-
-  pub pair-apart : (is_plain p && is_plain q) ≡ true → (cased_as case p ≡ cased_as case q → ⊥) → pair_of case p q ≡ Apart
-  unfolding pair_of
-  pair-apart t n = rw (t, ne_eqb _ _ n)
-
-  pub pair-other : (is_plain p && is_plain q) ≡ false → pair_of case p q ≡ Other
-  unfolding pair_of
-  pair-other f = rw f
-
   pub same-told : pair_of case p q ≡ Same → Plain p q (cased_as case p ≡ cased_as case q)
   unfolding pair_of
   same-told e =
@@ -74,14 +52,17 @@ module _ (case : Case) (p q : ℕ) where
 
 -- ---- one turn
 module _ (case : Case) (s t : List ℕ) (k : ℕ) where
-  pub run_ends : (n : ℕ) → n ≤ k → (length s ≤ n) ⊎ (length t ≤ n) → run_from case k (drop k s) (drop k t) ≡ Stops k
+  pub run_ends : min (length s) (length t) ≤ k → run_from case k (drop k s) (drop k t) ≡ Some k
   unfolding run_from
-  run_ends n h (inl l) = rw (drop_of_length-le s {i = k} (omega arith))
-  run_ends n h (inr l) = rw (drop_of_length-le t {i = k} (omega arith)) (go (drop k s))
+  run_ends h = by (ltb (length s) (length t)) refl
     where
-      go : (ps : List ℕ) → run_from case k ps [] ≡ Stops k
+      go : (ps : List ℕ) → run_from case k ps [] ≡ Some k
       go [] = refl
       go (p ∷ ps) = refl
+
+      by : (b : Bool) → ltb (length s) (length t) ≡ b → run_from case k (drop k s) (drop k t) ≡ Some k
+      by true e = rw (drop_of_length-le s {i = k} (omega (arith, h, ltb-true _ _ e)))
+      by false e = rw (drop_of_length-le t {i = k} (omega (arith, h, ltb-false _ _ e))) (go (drop k s))
 
   module _ (l : k < length s) (m : k < length t) (p q : ℕ) (first : p ≡ byte_at s k) (second : q ≡ byte_at t k) (o : Pair) (told : o ≡ pair_of case p q) where
     here : pair_of case (byte_at s k) (byte_at t k) ≡ o
@@ -91,11 +72,11 @@ module _ (case : Case) (s t : List ℕ) (k : ℕ) where
     unfolding run_from
     run_more e = rw (drop-cons s k 0 l, drop-cons t k 0 m, here ∙ e, run_from, add-one k)
 
-    pub run-differs : o ≡ Apart → run_from case k (drop k s) (drop k t) ≡ Differs
+    pub run-differs : o ≡ Apart → run_from case k (drop k s) (drop k t) ≡ None
     unfolding run_from
     run-differs e = rw (drop-cons s k 0 l, drop-cons t k 0 m, here ∙ e, run_from)
 
-    pub run-stops : o ≡ Other → run_from case k (drop k s) (drop k t) ≡ Stops k
+    pub run-stops : o ≡ Other → run_from case k (drop k s) (drop k t) ≡ Some k
     unfolding run_from
     run-stops e = rw (drop-cons s k 0 l, drop-cons t k 0 m, here ∙ e, run_from)
 
@@ -108,9 +89,9 @@ first-left s k p ps e =
     (l, cc, cc)
 
 -- what a run leads to, by its end: W behind the bytes that were passed, or Z
-unfoldable Ahead : (ℕ → Type 0) → Type 0 → Run → Type 0
-Ahead W Z Differs = Z
-Ahead W Z (Stops n) = W n
+unfoldable Ahead : (ℕ → Type 0) → Type 0 → Option ℕ → Type 0
+Ahead W Z None = Z
+Ahead W Z (Some n) = W n
 
 -- two places of a run, and what the bytes there tell
 pub record At (case : Case) (a : List ℕ) (u : ℕ) (b : List ℕ) (v : ℕ) (o : Pair) : Type 0 where
@@ -134,19 +115,19 @@ module _ (case : Case) (a : List ℕ) (x : ℕ) (b : List ℕ) (y : ℕ) (W : �
       (λ t. last u v (at Apart t) w)
       (rw (i, j) at w)
     where
-      go : (o : Pair) → (o ≡ Same → Ahead (λ n. W (x + n) (y + n)) Z (run_from case (k + 1) ps qs)) → (o ≡ Apart → Z) → W (x + k) (y + k) → Ahead (λ n. W (x + n) (y + n)) Z (elim o [ Same ↦ run_from case (k + 1) ps qs | Apart ↦ Differs | Other ↦ Stops k ])
+      go : (o : Pair) → (o ≡ Same → Ahead (λ n. W (x + n) (y + n)) Z (run_from case (k + 1) ps qs)) → (o ≡ Apart → Z) → W (x + k) (y + k) → Ahead (λ n. W (x + n) (y + n)) Z (elim o [ Same ↦ run_from case (k + 1) ps qs | Apart ↦ None | Other ↦ Some k ])
       go Same f g h = f refl
       go Apart f g h = g refl
       go Other f g h = h
 
-  module _ (r : Run) (is : r ≡ run_from case 0 (take (length a - x) (drop x a)) (take (length b - y) (drop y b))) where
+  module _ (r : Option ℕ) (is : r ≡ run_from case 0 (take (length a - x) (drop x a)) (take (length b - y) (drop y b))) where
     led : Ahead (λ n. W (x + n) (y + n)) Z r
     led = rw (is, part_to_end a x, part_to_end b y) (ahead (drop x a) (drop y b) 0 x y (omega arith) (omega arith) refl refl w)
 
-    pub run_on : (n : ℕ) → r ≡ Stops n → W (x + n) (y + n)
+    pub run_on : (n : ℕ) → r ≡ Some n → W (x + n) (y + n)
     unfolding Ahead
     run_on n e = rw e at led
 
-    pub run-parts : r ≡ Differs → Z
+    pub run-parts : r ≡ None → Z
     unfolding Ahead
     run-parts e = rw e at led

@@ -21,9 +21,8 @@ use Rattle.json_chars.proofs.Plain.{closing-step}
 use Rattle.json_chars.proofs.Walk.{Left, Taken, take-char, take-close, take-bad, opened, unopened}
 use Rattle.json_same.specs.declared.Case.{Case}
 use Rattle.json_same.specs.declared.Pair.TheVariants.{Same, Apart}
-use Rattle.json_same.specs.declared.Run.{Run}
-use Rattle.json_same.specs.declared.Run.TheVariants.{Differs, Stops}
 use Rattle.json_same.specs.Same.{cased_as, same_list, same_as, is_plain}
+use Rattle.std.specs.Prelude.{Option, Some, None}
 use Rattle.json_same.specs.Walk.{Alike, beginning, is_end, run_from}
 use Rattle.json_same.proofs.Pairs.{Plain, same-told, apart-told, At, run_on, run-parts}
 use Rattle.json_same.proofs.Alike.{behind-alike}
@@ -171,11 +170,11 @@ module _ (case : Case) (a b : List ℕ) (whole : Bool) where
       let m : Plain (byte_at a u) (byte_at b v) (cased_as case (byte_at a u) ≡ cased_as case (byte_at b v) → ⊥) = apart-told case _ _ t.told in
       both-differ case a u b v whole w _ _ (plain_step a u _ refl m.one) _ _ (plain_step b v _ refl m.other) m.compared
 
-  module _ (x y : ℕ) (w : Both case a x b y whole) (r : Run) (is : r ≡ run_from case 0 (take (length a - x) (drop x a)) (take (length b - y) (drop y b))) where
-    pub both-on : (n : ℕ) → r ≡ Stops n → Both case a (x + n) b (y + n) whole
+  module _ (x y : ℕ) (w : Both case a x b y whole) (r : Option ℕ) (is : r ≡ run_from case 0 (take (length a - x) (drop x a)) (take (length b - y) (drop y b))) where
+    pub both-on : (n : ℕ) → r ≡ Some n → Both case a (x + n) b (y + n) whole
     both-on = run_on case a x b y (λ u v. Both case a u b v whole) (whole ≡ false) both-same both-apart w r is
 
-    pub both-part : r ≡ Differs → whole ≡ false
+    pub both-part : r ≡ None → whole ≡ false
     both-part = run-parts case a x b y (λ u v. Both case a u b v whole) (whole ≡ false) both-same both-apart w r is
 
   -- bytes that are alike, passed at once: the same byte is the same character, as it is compared in either case
@@ -203,9 +202,9 @@ module _ (case : Case) (s word : List ℕ) (whole : Bool) where
       let m : Plain (byte_at s u) (byte_at word v) (cased_as case (byte_at s u) ≡ cased_as case (byte_at word v) → ⊥) = apart-told case _ _ t.told in
       against-differs case s u (drop v word) whole w.against _ _ (plain_step s u _ refl m.one) _ _ (next-letter word v t.other) m.compared
 
-  module _ (i k : ℕ) (w : Worded case s i word k whole) (r : Run) (is : r ≡ run_from case 0 (take (length s - i) (drop i s)) (take (length word - k) (drop k word))) where
-    pub word_on : (n : ℕ) → r ≡ Stops n → Worded case s (i + n) word (k + n) whole
+  module _ (i k : ℕ) (w : Worded case s i word k whole) (r : Option ℕ) (is : r ≡ run_from case 0 (take (length s - i) (drop i s)) (take (length word - k) (drop k word))) where
+    pub word_on : (n : ℕ) → r ≡ Some n → Worded case s (i + n) word (k + n) whole
     word_on = run_on case s i word k (λ u v. Worded case s u word v whole) (whole ≡ false) word_same word-apart w r is
 
-    pub word-part : r ≡ Differs → whole ≡ false
+    pub word-part : r ≡ None → whole ≡ false
     word-part = run-parts case s i word k (λ u v. Worded case s u word v whole) (whole ≡ false) word_same word-apart w r is

@@ -1,5 +1,5 @@
 -- For the code's sake alone: what a walk along one string or two asks at each place.
-use Rattle.std.specs.Prelude.{ℕ, ◌+◌, ◌≤◌, ◌<◌, ◌≡◌, Bool, true, false, cond, ◌&&◌, List, [], ◌∷◌, length, eqb}
+use Rattle.std.specs.Prelude.{ℕ, ◌+◌, ◌≤◌, ◌<◌, ◌≡◌, Bool, true, false, cond, ◌&&◌, List, [], ◌∷◌, length, eqb, Option, Some, None}
 use Rattle.json_bytes.specs.Reads.{byte_at}
 use Rattle.json_chars.specs.declared.Step.{Step}
 use Rattle.json_chars.specs.declared.Step.TheVariants.{Char, Close, Bad}
@@ -7,8 +7,6 @@ use Rattle.json_same.specs.Same.{cased_as, is_plain}
 use Rattle.json_same.specs.declared.Case.{Case}
 use Rattle.json_same.specs.declared.Pair.{Pair}
 use Rattle.json_same.specs.declared.Pair.TheVariants.{Same, Apart, Other}
-use Rattle.json_same.specs.declared.Run.{Run}
-use Rattle.json_same.specs.declared.Run.TheVariants.{Differs, Stops}
 
 -- ---- Along one string
 -- where the characters begin of the string whose opening quote stands at a place; where no quote stands there, the end
@@ -27,11 +25,12 @@ is_end (Bad kind place) = true
 unfoldable pub pair_of : Case → ℕ → ℕ → Pair
 pair_of case p q = cond (is_plain p && is_plain q) (cond (eqb (cased_as case p) (cased_as case q)) Same Apart) Other
 
+-- how far two strings go side by side: over how many bytes; none where they come to two that are apart
 -- behind n bytes that were the same: on to the first two that are not, or to the end of either
-unfoldable pub run_from : Case → ℕ → List ℕ → List ℕ → Run
-run_from case n [] qs = Stops n
-run_from case n (p ∷ ps) [] = Stops n
-run_from case n (p ∷ ps) (q ∷ qs) = elim (pair_of case p q) [ Same ↦ run_from case (n + 1) ps qs | Apart ↦ Differs | Other ↦ Stops n ]
+unfoldable pub run_from : Case → ℕ → List ℕ → List ℕ → Option ℕ
+run_from case n [] qs = Some n
+run_from case n (p ∷ ps) [] = Some n
+run_from case n (p ∷ ps) (q ∷ qs) = elim (pair_of case p q) [ Same ↦ run_from case (n + 1) ps qs | Apart ↦ None | Other ↦ Some n ]
 
 -- ---- Along two strings, eight bytes at a time
 -- r bytes, eight at most, that stand from two places on: the same in both, and each stands for itself inside a string

@@ -1,8 +1,8 @@
 // Whether two strings have the same characters, walked side by side where they stand: of any
 // length, in one slice or two, escapes decoded on the way, with no copy.
-#![tactic(auto)]
+#![tactic(auto, unfolding(json_bytes::specs::Reads::within, crate::specs::Same::cased_as, crate::specs::Same::is_plain, crate::specs::Walk::beginning, crate::specs::Walk::is_end, crate::specs::Walk::pair_of))]
 
-ghost use Rattle.std.specs.Prelude.{◌≡◌, ◌&&◌, ◌⊎◌, ◌≤◌, length};
+ghost use Rattle.std.specs.Prelude.{◌≡◌, ◌≤◌, length};
 ghost use Rattle.json_chars.specs.Chars.{chars_at};
 ghost use Rattle.json_same.specs.Same.{cased_as, same_as, is_plain};
 ghost use Rattle.json_same.specs.Walk.{Alike, beginning, is_end, pair_of, run_from};
@@ -22,23 +22,22 @@ pub enum Case {
 fn cased(case: Case, code: u32) -> u32
     ensures { result ≡ cased_as case code }
 {
-    if let Case::Folded = case {
-        if is_within(65, 90, code) {
-            return code + 32;
-        }
+    match case {
+        Case::Folded if is_within(65, 90, code) => code + 32,
+        _ => code,
     }
-    code
 }
 
 // Where the characters begin of the string whose opening quote stands at a place: behind it; and
 // where no quote stands there, at the slice's end, which holds no character.
-fn beginning_of(s: &[u8], at: usize) -> usize
+pub fn beginning_of(s: &[u8], at: usize) -> usize
     ensures { result ≡ beginning s.now at }
 {
     if byte_at(s, at) == 34 {
-        return at + 1;
+        at + 1
+    } else {
+        s.len()
     }
-    s.len()
 }
 
 // Whether a step came to the end of a string's characters.
@@ -46,9 +45,8 @@ fn is_end(step: Step) -> bool
     ensures { result ≡ is_end step }
 {
     match step {
-        Step::Char { code: _, next: _ } => false,
-        Step::Close => true,
-        Step::Bad { kind: _, place: _ } => true,
+        Step::Char { .. } => false,
+        Step::Close | Step::Bad { .. } => true,
     }
 }
 
@@ -57,26 +55,7 @@ fn is_end(step: Step) -> bool
 pub fn is_plain(b: u32) -> bool
     ensures { result ≡ is_plain b }
 {
-    if b == 92 {
-        return false;
-    }
-    if is_within(35, 127, b) {
-        return true;
-    }
-    if b == 34 {
-        return false;
-    }
-    is_within(32, 127, b)
-}
-
-// Whether two bytes do.
-fn are_plain(p: u32, q: u32) -> bool
-    ensures { result ≡ (is_plain p && is_plain q) }
-{
-    if is_plain(p) {
-        return is_plain(q);
-    }
-    false
+    b != 92 && (is_within(35, 127, b) || is_within(32, 33, b))
 }
 
 // Two bytes side by side, a character beginning at each.
@@ -90,62 +69,34 @@ enum Pair {
     Other,
 }
 
-// How far two strings go side by side, byte by byte.
-#[derive(Clone, Copy)]
-enum Run {
-    // To two bytes that are apart.
-    Differs,
-    // Over n bytes, to a place where a step has to tell what stands there, or to the end of a slice.
-    Stops { n: usize },
-}
-
 // What two bytes are to each other. Equal ones come first: they are the most, and need no folding.
 fn pair_of(case: Case, p: u32, q: u32) -> Pair
     ensures { result ≡ pair_of case p q }
 {
     if p == q {
-        if is_plain(p) {
-            return Pair::Same;
-        }
-        return Pair::Other;
+        if is_plain(p) { Pair::Same } else { Pair::Other }
+    } else if is_plain(p) && is_plain(q) {
+        let same = cased(case, p) == cased(case, q);
+        if same { Pair::Same } else { Pair::Apart }
+    } else {
+        Pair::Other
     }
-    if are_plain(p, q) {
-        if cased(case, p) == cased(case, q) {
-            return Pair::Same;
-        }
-        return Pair::Apart;
-    }
-    Pair::Other
 }
 
-fn wide(b: u8) -> u32
-    ensures { result ≡ b }
-{
-    b as u32
-}
-
-// The smaller of two lengths.
-fn shorter(n: usize, m: usize) -> usize
-    ensures { (result ≤ n) × (result ≤ m) × ((n ≤ result) ⊎ (m ≤ result)) }
-{
-    if n < m { n } else { m }
-}
-
-// How far two strings go side by side from a character of each on. One bound and one place serve
-// both, so that a turn is little more than that of a loop over bytes.
-fn run_of(s: &[u8], t: &[u8], case: Case) -> Run
+// How far two strings go side by side from a character of each on: over how many bytes, to a place where a step has to
+// tell what stands there, or to the end of a slice; none where they come to two bytes that are apart.
+fn run_of(s: &[u8], t: &[u8], case: Case) -> Option<usize>
     ensures { result ≡ run_from case 0 s.now t.now }
 {
-    let n = shorter(s.len(), t.len());
-    let mut k = 0;
-    while k < n {
-        match pair_of(case, wide(s[k]), wide(t[k])) {
-            Pair::Same => k += 1,
-            Pair::Apart => return Run::Differs,
-            Pair::Other => return Run::Stops { n: k },
+    let n = s.len().min(t.len());
+    for k in 0..n {
+        match pair_of(case, u32::from(s[k]), u32::from(t[k])) {
+            Pair::Same => {}
+            Pair::Apart => return None,
+            Pair::Other => return Some(k),
         }
     }
-    Run::Stops { n: k }
+    Some(n)
 }
 
 // How many of the next eight bytes are the same in both and stand for themselves: those before the
@@ -154,10 +105,7 @@ pub fn alike_at(a: &[u8], x: usize, b: &[u8], y: usize) -> usize
     requires { (x ≤ length a.now) × (y ≤ length b.now) }
     ensures { Alike a.now x b.now y result }
 {
-    if a.len() < x + 8 {
-        return 0;
-    }
-    if b.len() < y + 8 {
+    if a.len() < x + 8 || b.len() < y + 8 {
         return 0;
     }
     let p = eight_at(a, x);
@@ -179,7 +127,7 @@ pub fn same_text(a: &[u8], i: usize, b: &[u8], j: usize, case: Case) -> bool
         if byte_at(a, x) == 34 {
             return is_end(step_at(b, y));
         }
-        let Run::Stops { n } = run_of(&a[x..], &b[y..], case) else {
+        let Some(n) = run_of(&a[x..], &b[y..], case) else {
             return false;
         };
         x += n;
@@ -209,7 +157,7 @@ pub fn text_is(s: &[u8], at: usize, word: &[u8], case: Case) -> bool
     let mut i = beginning_of(s, at);
     let mut k = 0;
     loop {
-        let Run::Stops { n } = run_of(&s[i..], &word[k..], case) else {
+        let Some(n) = run_of(&s[i..], &word[k..], case) else {
             return false;
         };
         i += n;

@@ -1,10 +1,9 @@
 -- What a caller needs of a string: read whole, it ends within the file and after it began; a fault's place lies within
 -- the file or at its length, and so does the first wrong character's.
 -- Assumes nothing.
+use Rattle.std.specs.Prelude.{Ok, Err}
 use Rattle.std.proofs.Common.{ℕ, zero, suc, ◌+◌, ◌≤◌, Bool, true, ◌||◌, eqb, ltb, List, length, arith, eqb-true}
-use Rattle.json_bytes.specs.Reads.{byte_at}
-use Rattle.json_bytes.specs.declared.Reading.{Reading}
-use Rattle.json_bytes.specs.declared.Reading.TheVariants.{Whole, Fault}
+use Rattle.json_bytes.specs.Reads.{byte_at, Reading, fault_at}
 use Rattle.json_bytes.proofs.Laws.{inside, by-test, either}
 use Rattle.json_bytes.proofs.Bounds.{Within}
 use Rattle.json_chars.specs.Step.{step_at}
@@ -17,10 +16,10 @@ use Rattle.json_text.specs.declared.Wrong.{Wrong}
 
 -- a reading from a later place is one from an earlier place
 pub earlier : (s : List ℕ) (i j : ℕ) → i ≤ j → (r : Reading) → Within s j r → Within s i r
-earlier s i j l (Whole end) q = (omega (arith, q.0), q.1)
-earlier s i j l (Fault kind place) q = q
+earlier s i j l (Ok end) q = (omega (arith, q.0), q.1)
+earlier s i j l (Err e) q = q
 
-from_step : (f : ℕ) (s : List ℕ) (i : ℕ) → ((next : ℕ) → next ≤ length s → Within s next (text_from f s next)) → (t : Step) → Good s i t → Within s i (elim t [ Char code next ↦ text_from f s next | Close ↦ Whole (i + 1) | Bad kind place ↦ Fault kind place ])
+from_step : (f : ℕ) (s : List ℕ) (i : ℕ) → ((next : ℕ) → next ≤ length s → Within s next (text_from f s next)) → (t : Step) → Good s i t → Within s i (elim t [ Char code next ↦ text_from f s next | Close ↦ Ok (i + 1) | Bad kind place ↦ fault_at kind place ])
 from_step f s i rest (Char code next) g = earlier s i next (omega (arith, g.0)) (text_from f s next) (rest next g.1)
 from_step f s i rest Close g = (omega arith, omega (arith, g))
 from_step f s i rest (Bad kind place) g = g

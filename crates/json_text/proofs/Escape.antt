@@ -1,6 +1,7 @@
 -- An escape of four digits, two zeros first, that stands for a character from U+0030 to U+007E: the step over it.
 -- Assumes nothing.
-use Rattle.std.proofs.Common.{◌≡◌, ℕ, ◌+◌, ◌-◌, ◌*◌, ◌<◌, ◌≤◌, true, not, eqb, List, sym, refl, arith, le-leb}
+use Rattle.std.proofs.Common.{◌≡◌, ℕ, ◌+◌, ◌-◌, ◌*◌, ◌<◌, ◌≤◌, true, not, eqb, List, length, get_or, take, drop, sym, refl, add-zero, arith, le-leb}
+use Rattle.std.proofs.lemmas.List.{get_or-drop, take_rest}
 use borrow.Author.Tests.{lt-leb, eqb-false, not-true}
 use Rattle.json_bytes.specs.Reads.{byte_at, within}
 use Rattle.json_bytes.proofs.Laws.{within-from, within-to}
@@ -27,6 +28,20 @@ pub record Begun (s : List ℕ) (j : ℕ) : Type 0 where
   pub first : byte_at s (j + 2) ≡ 48
   pub second : byte_at s (j + 3) ≡ 48
   pub third : within 51 55 (byte_at s (j + 4)) ≡ true
+
+-- as it is tested, in what stands from j on
+pub byte_behind : (s : List ℕ) (j k : ℕ) → get_or (take (length s - j) (drop j s)) k 0 ≡ byte_at s (j + k)
+byte_behind s j k = rw (take_rest s j) (get_or-drop j s k 0)
+
+pub begun-in : (s : List ℕ) (j : ℕ) (r : List ℕ) → r ≡ take (length s - j) (drop j s) → get_or r 0 0 ≡ 92 → get_or r 1 0 ≡ 117 → get_or r 2 0 ≡ 48 → get_or r 3 0 ≡ 48 → within 51 55 (get_or r 4 0) ≡ true → Begun s j
+begun-in s j r is a b d e f =
+    record {
+      slash = rw (← add-zero j, ← byte_behind s j 0, ← is) a;
+      letter = rw (← byte_behind s j 1, ← is) b;
+      first = rw (← byte_behind s j 2, ← is) d;
+      second = rw (← byte_behind s j 3, ← is) e;
+      third = rw (← byte_behind s j 4, ← is) f;
+    }
 
 module _ (s : List ℕ) (j : ℕ) (begun : Begun s j) where
   abbrev third : ℕ

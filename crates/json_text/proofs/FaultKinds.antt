@@ -1,9 +1,9 @@
 -- Which kinds reading a string can give, and which rules its characters can break, by its type.
 -- Assumes nothing.
+use Rattle.std.specs.Prelude.{Ok}
 use Rattle.std.proofs.Common.{◌≡◌, ℕ, zero, suc, ◌+◌, ◌≤◌, Bool, true, not, eqb, leb, List, [], ◌∷◌, map, length, refl, arith, leb-true}
 use borrow.Author.Tests.{not-false}
-use Rattle.json_bytes.specs.Reads.{byte_at, within}
-use Rattle.json_bytes.specs.declared.Reading.TheVariants.{Whole, Fault}
+use Rattle.json_bytes.specs.Reads.{byte_at, within, fault_at}
 use Rattle.json_bytes.proofs.Laws.{by-test, either, within-from, within-to}
 use Rattle.json_bytes.proofs.FaultKinds.{In, every, each, wider, below, in_order, Faults}
 use Rattle.json_chars.specs.Step.{step_at}
@@ -22,7 +22,7 @@ abbrev pub text_kinds : List ℕ
 text_kinds = 11 ∷ step_kinds
 
 module _ (s : List ℕ) where
-  of-step : (f i : ℕ) → ((next : ℕ) → Faults text_kinds (text_from f s next)) → (t : Step) → StepFaults step_kinds t → Faults text_kinds (elim t [ Char code next ↦ text_from f s next | Close ↦ Whole (i + 1) | Bad kind place ↦ Fault kind place ])
+  of-step : (f i : ℕ) → ((next : ℕ) → Faults text_kinds (text_from f s next)) → (t : Step) → StepFaults step_kinds t → Faults text_kinds (elim t [ Char code next ↦ text_from f s next | Close ↦ Ok (i + 1) | Bad kind place ↦ fault_at kind place ])
   of-step f i rest (Char code next) h = rest next
   of-step f i rest Close h = tt
   of-step f i rest (Bad kind place) h = wider step_kinds text_kinds refl kind h
@@ -37,7 +37,7 @@ module _ (s : List ℕ) where
   text-kinds at = either (Faults text_kinds) (eqb (byte_at s at) 34) _ _ (from-kinds (length s) (at + 1)) refl
 
 -- each is given, inside the quote: at the end of the file, at a byte that begins no sequence, at a raw control
-pub text-given : map (λ s. text_read_at s 0) ((34 ∷ []) ∷ (34 ∷ 0xFF ∷ []) ∷ (34 ∷ 1 ∷ []) ∷ []) ≡ map (λ kind. Fault kind 1) text_kinds
+pub text-given : map (λ s. text_read_at s 0) ((34 ∷ []) ∷ (34 ∷ 0xFF ∷ []) ∷ (34 ∷ 1 ∷ []) ∷ []) ≡ map (λ kind. fault_at kind 1) text_kinds
 unfolding open-text
 text-given = refl
 

@@ -1,10 +1,9 @@
 -- Reading a string and its rules at once: what is left at a place, one law for each answer of a step, and what a caller
 -- needs of a whole reading.
 -- Assumes nothing.
-use Rattle.std.proofs.Common.{◌≡◌, ℕ, zero, suc, ◌+◌, ◌-◌, ◌<◌, ◌≤◌, Bool, true, false, cond, ◌&&◌, ◌||◌, eqb, ltb, List, [], ◌∷◌, length, drop, sym, refl, ap, ◌∙◌, add-zero, suc-add, zero-add, arith, ltb-false, ltb-true, le-ltb, lt-ltb, eq-eqb, ne_eqb, eqb-true}
-use Rattle.json_bytes.specs.Reads.{byte_at, within, leading}
-use Rattle.json_bytes.specs.declared.Reading.{Reading}
-use Rattle.json_bytes.specs.declared.Reading.TheVariants.{Whole, Fault}
+use Rattle.std.specs.Prelude.{Ok}
+use Rattle.std.proofs.Common.{◌≡◌, ℕ, zero, suc, ◌+◌, ◌-◌, ◌<◌, ◌≤◌, Bool, true, false, cond, ◌&&◌, ◌||◌, eqb, ltb, List, [], ◌∷◌, length, drop, sym, refl, ap, ◌∙◌, add-zero, suc-add, zero-add, arith, ltb-false, ltb-true, lt-ltb, eq-eqb, ne_eqb, eqb-true}
+use Rattle.json_bytes.specs.Reads.{byte_at, within, leading, Reading, fault_at}
 use Rattle.json_chars.specs.Step.{step_at}
 use Rattle.json_chars.specs.declared.Step.TheVariants.{Char, Close, Bad}
 use Rattle.json_bytes.proofs.Laws.{both_left, both_right, within-from, within-to}
@@ -21,10 +20,6 @@ module _ (w v : Wrong) where
   pub first-is : 0 < w.rule → first_wrong w v ≡ w
   unfolding first_wrong
   first-is h = rw (lt-ltb 0 w.rule h)
-
-  pub first-not : w.rule ≤ 0 → first_wrong w v ≡ v
-  unfolding first_wrong
-  first-not h = rw (le-ltb 0 w.rule h)
 
 pub first-assoc : (w v u : Wrong) → first_wrong w (first_wrong v u) ≡ first_wrong (first_wrong w v) u
 unfolding first_wrong
@@ -71,12 +66,12 @@ module _ (ty : TextType) (s : List ℕ) (at : ℕ) (w : Wrong) (i : ℕ) (edge :
         tidy = sym (first-assoc w here none) ∙ ap (first_wrong w) (here-tidy _ i);
       }
 
-  close-by : (f : ℕ) → i ≤ length s → length s < i + f → text_from f s i ≡ text_read_at s at → first_wrong w (wrong_from f ty s i edge) ≡ wrong_at ty s at → step_at s i ≡ Close → (text_read_at s at ≡ Whole (i + 1)) × (wrong_at ty s at ≡ first_wrong w none)
+  close-by : (f : ℕ) → i ≤ length s → length s < i + f → text_from f s i ≡ text_read_at s at → first_wrong w (wrong_from f ty s i edge) ≡ wrong_at ty s at → step_at s i ≡ Close → (text_read_at s at ≡ Ok (i + 1)) × (wrong_at ty s at ≡ first_wrong w none)
   unfolding text_from wrong_from
   close-by zero l m r q e = absurd (omega arith)
   close-by (suc g) l m r q e = (sym (rw (e, text_from) at r), sym (rw (e, wrong_from) at q))
 
-  bad-by : (f : ℕ) → i ≤ length s → length s < i + f → text_from f s i ≡ text_read_at s at → first_wrong w (wrong_from f ty s i edge) ≡ wrong_at ty s at → (kind place : ℕ) → step_at s i ≡ Bad kind place → (text_read_at s at ≡ Fault kind place) × (wrong_at ty s at ≡ first_wrong w none)
+  bad-by : (f : ℕ) → i ≤ length s → length s < i + f → text_from f s i ≡ text_read_at s at → first_wrong w (wrong_from f ty s i edge) ≡ wrong_at ty s at → (kind place : ℕ) → step_at s i ≡ Bad kind place → (text_read_at s at ≡ fault_at kind place) × (wrong_at ty s at ≡ first_wrong w none)
   unfolding text_from wrong_from
   bad-by zero l m r q kind place e = absurd (omega arith)
   bad-by (suc g) l m r q kind place e = (sym (rw (e, text_from) at r), sym (rw (e, wrong_from) at q))
@@ -97,12 +92,12 @@ module _ (ty : TextType) (s : List ℕ) (at : ℕ) (w : Wrong) (i : ℕ) (edge :
   pub close-inside : step_at s i ≡ Close → i < length s
   close-inside e = rw e at (step-good s i left.inside)
 
-  pub take-close : step_at s i ≡ Close → text_read ty s at ≡ record { reading = Whole (i + 1); wrong = w }
+  pub take-close : step_at s i ≡ Close → text_read ty s at ≡ record { reading = Ok (i + 1); wrong = w }
   take-close e =
       let p = close-by ty s at w i edge left.fuel left.inside left.enough left.reads left.wrongs e in
       both ty s at p.0 (p.1 ∙ left.tidy)
 
-  pub take-bad : (kind place : ℕ) → step_at s i ≡ Bad kind place → text_read ty s at ≡ record { reading = Fault kind place; wrong = w }
+  pub take-bad : (kind place : ℕ) → step_at s i ≡ Bad kind place → text_read ty s at ≡ record { reading = fault_at kind place; wrong = w }
   take-bad kind place e =
       let p = bad-by ty s at w i edge left.fuel left.inside left.enough left.reads left.wrongs kind place e in
       both ty s at p.0 (p.1 ∙ left.tidy)
@@ -276,6 +271,6 @@ module _ (ty : TextType) (s : List ℕ) (at : ℕ) where
         tidy = refl;
       }
 
-  pub unopened : (byte_at s at ≡ 34 → ⊥) → text_read ty s at ≡ record { reading = Fault 11 at; wrong = record { rule = 0; place = 0 } }
+  pub unopened : (byte_at s at ≡ 34 → ⊥) → text_read ty s at ≡ record { reading = fault_at 11 at; wrong = record { rule = 0; place = 0 } }
   unfolding text_read_at wrong_at text_read none
   unopened n = rw (ne_eqb (byte_at s at) 34 n)

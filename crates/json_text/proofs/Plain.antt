@@ -1,9 +1,9 @@
 -- A string that has only bytes which are characters by themselves and break no rule: these are its characters, and it is
 -- read whole.
 -- Assumes nothing.
+use Rattle.std.specs.Prelude.{Ok}
 use Rattle.std.proofs.Common.{◌≡◌, ℕ, ◌+◌, ◌-◌, ◌<◌, ◌≤◌, Bool, true, false, cond, eqb, ltb, List, length, take, drop, refl, arith, lit<, ltb-true, le-ltb, lt-ltb, eq-eqb, ne_eqb, eqb-true}
 use Rattle.json_bytes.specs.Reads.{byte_at}
-use Rattle.json_bytes.specs.declared.Reading.TheVariants.{Whole}
 use Rattle.json_bytes.proofs.Laws.{inside}
 use Rattle.json_chars.specs.Chars.{chars_at}
 use Rattle.json_chars.proofs.Plain.{closing-step, chars-plain}
@@ -65,12 +65,12 @@ module _ (s : List ℕ) (at : ℕ) where
         (p.some, inside s j 34 p.close (lit< tt))
 
     -- it breaks no rule, whatever its type
-    pub plain-read : (ty : TextType) → text_read ty s at ≡ record { reading = Whole (j + 1); wrong = record { rule = 0; place = 0 } }
+    pub plain-read : (ty : TextType) → text_read ty s at ≡ record { reading = Ok (j + 1); wrong = record { rule = 0; place = 0 } }
     plain-read ty =
         let p = plain j is h in
         take-close ty s at (record { rule = 0; place = 0 }) j _ (along-end ty s at (record { rule = 0; place = 0 }) (at + 1) j true (opened ty s at (omega (arith, plain-inside.0, plain-inside.1)) p.quote) p.end) (closing-step s j p.close)
 
-    pub plain-text : text_read Text s at ≡ record { reading = Whole (j + 1); wrong = record { rule = 0; place = 0 } }
+    pub plain-text : text_read Text s at ≡ record { reading = Ok (j + 1); wrong = record { rule = 0; place = 0 } }
     plain-text = plain-read Text
 
     pub plain-chars : chars_at s at ≡ take (j - (at + 1)) (drop (at + 1) s)

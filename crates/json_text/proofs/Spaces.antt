@@ -26,11 +26,6 @@ module _ (runs : List (List ℕ)) (c i : ℕ) where
   unfolding in_runs
   runs-end l = rw (drop_of_length-le runs l)
 
--- what the runs of the type's set answer
-pub of-set : (ty : TextType) (c : ℕ) (runs : List (List ℕ)) {r : Bool} → spaces_of ty ≡ runs → r ≡ in_runs runs c → r ≡ is_white ty c
-unfolding is_white
-of-set ty c runs e q = rw e q
-
 -- ---- the codes of a table one by one
 unfoldable pub codes_from : ℕ → ℕ → List ℕ
 codes_from first zero = []

@@ -1,10 +1,8 @@
 -- A string read whole, and the string rules of document 01: "Decoded first. U+0000–0008, 000B–000C, 000E–001F and 007F
 -- are barred, as are unpaired surrogate escapes. String and StringID: no whitespace but single inner spaces. StringID:
 -- U+0020–007E only. Text: no whitespace rule." What counts as whitespace is document 02's, order 2.
-use Rattle.std.specs.Prelude.{ℕ, zero, suc, ◌+◌, Bool, true, false, cond, not, ◌&&◌, ◌||◌, List, [], ◌∷◌, length, ◌==◌, nat_lt, slice_index}
-use Rattle.json_bytes.specs.Reads.{byte_at, within}
-use Rattle.json_bytes.specs.declared.Reading.{Reading}
-use Rattle.json_bytes.specs.declared.Reading.TheVariants.{Whole, Fault}
+use Rattle.std.specs.Prelude.{ℕ, zero, suc, ◌+◌, Bool, true, false, cond, not, ◌&&◌, ◌||◌, List, [], ◌∷◌, length, ◌==◌, nat_lt, slice_index, Ok}
+use Rattle.json_bytes.specs.Reads.{byte_at, within, Reading, fault_at}
 use Rattle.json_chars.specs.Step.{step_at}
 use Rattle.json_chars.specs.declared.Step.TheVariants.{Char, Close, Bad}
 use Rattle.json_text.specs.declared.TextType.{TextType}
@@ -14,13 +12,13 @@ use Rattle.json_text.specs.declared.TextRead.{TextRead}
 
 -- ---- Reading it whole: the place behind its closing quote, or the fault of the first step that cannot go on
 unfoldable pub text_from : ℕ → List ℕ → ℕ → Reading
-text_from zero s i = Fault 11 i
+text_from zero s i = fault_at 11 i
 text_from (suc f) s i =
-    elim (step_at s i) [ Char code next ↦ text_from f s next | Close ↦ Whole (i + 1) | Bad kind place ↦ Fault kind place ]
+    elim (step_at s i) [ Char code next ↦ text_from f s next | Close ↦ Ok (i + 1) | Bad kind place ↦ fault_at kind place ]
 
 -- a string begins with a quote; each character takes a byte at least, so that the length of the file is fuel enough
 unfoldable pub text_read_at : List ℕ → ℕ → Reading
-text_read_at s at = cond (byte_at s at == 34) (text_from (length s) s (at + 1)) (Fault 11 at)
+text_read_at s at = cond (byte_at s at == 34) (text_from (length s) s (at + 1)) (fault_at 11 at)
 
 -- ---- The rules of a character
 unfoldable pub barred : ℕ → Bool

@@ -1,13 +1,13 @@
 // A string read whole, with the first character that breaks a rule of its type, in one pass.
-#![tactic(auto)]
+#![tactic(auto, unfolding(json_bytes::specs::Reads::within, crate::specs::Text::white_space, crate::specs::Text::blanks, crate::specs::Text::barred, crate::specs::Text::is_white, crate::specs::Text::spaces_of, crate::specs::Text::wrong_space, crate::specs::Text::outside_id, crate::specs::Text::rule_broken, crate::specs::Text::none, crate::specs::Text::wrong_here, crate::specs::Text::first_wrong, crate::specs::Text::closes_at, crate::specs::Run::is_graphic, crate::specs::Run::edge_behind, crate::specs::Eight::first_byte))]
 
 ghost use Rattle.std.specs.Prelude.{◌≡◌, ◌≤◌, true, ◌||◌, length};
 ghost use Rattle.json_text.specs.Eight.{odd_bytes, no_space_bytes, stop_bytes, first_byte};
 ghost use Rattle.json_text.specs.Run.{is_graphic, run_end, plain_end, edge_behind, Words};
-ghost use Rattle.json_text.specs.Text.{barred, white_space, blanks, in_runs, is_white, wrong_space, outside_id, rule_broken, wrong_here, first_wrong, closes_at, text_read};
+ghost use Rattle.json_text.specs.Text.{barred, in_runs, is_white, wrong_space, outside_id, rule_broken, wrong_here, first_wrong, closes_at, text_read};
 ghost use Rattle.json_text.specs.Escape.{PlainEscape};
 
-use json_bytes::{Reading, byte_at, eight_at, is_within};
+use json_bytes::{Fault, Reading, byte_at, eight_at, is_within};
 use json_chars::{Step, step_at};
 
 // The three types of text, each with its rules.
@@ -18,7 +18,7 @@ pub enum TextType {
     StringID,
 }
 
-// The first wrong character: the rule it breaks (1 barred control, 2 whitespace, 3 outside the ID
+// The first wrong character (what may not change: the theorems of json_meaning on `wrong_at` have rule 0 for none): the rule it breaks (1 barred control, 2 whitespace, 3 outside the ID
 // set, 4 unpaired surrogate; 0 where no character is wrong) and the place of its first byte.
 #[derive(Clone, Copy)]
 pub struct Wrong {
@@ -51,40 +51,26 @@ const WHITE_SPACE: [[u32; 2]; 10] = [
 // Tab, line feed, carriage return and space.
 const BLANKS: [[u32; 2]; 3] = [[0x9, 0xA], [0xD, 0xD], [0x20, 0x20]];
 
-fn white_space() -> [[u32; 2]; 10]
-    ensures { result ≡ white_space }
-{
-    WHITE_SPACE
-}
-
-fn blanks() -> [[u32; 2]; 3]
-    ensures { result ≡ blanks }
-{
-    BLANKS
-}
-
 fn in_runs(runs: &[[u32; 2]], c: u32) -> bool
     ensures { result ≡ in_runs runs.now c }
 {
-    let mut i = 0;
-    while i < runs.len() {
-        if is_within(runs[i][0], runs[i][1], c) {
+    for run in runs {
+        if is_within(run[0], run[1], c) {
             return true;
         }
-        i += 1;
     }
     false
 }
 
 // The type chooses the set.
-#[tactic(auto, unfolding(crate::specs::Text::is_white, crate::specs::Text::spaces_of, crate::specs::Text::in_runs))]
+#[tactic(auto, unfolding(crate::specs::Text::is_white, crate::specs::Text::spaces_of, crate::specs::Text::in_runs, crate::specs::Text::white_space, crate::specs::Text::blanks))]
 fn is_white(ty: TextType, c: u32) -> bool
     ensures { result ≡ is_white ty c }
 {
     match ty {
         TextType::Text => false,
-        TextType::String => in_runs(&white_space(), c),
-        TextType::StringID => in_runs(&blanks(), c),
+        TextType::String => in_runs(&WHITE_SPACE, c),
+        TextType::StringID => in_runs(&BLANKS, c),
     }
 }
 
@@ -92,36 +78,20 @@ fn is_white(ty: TextType, c: u32) -> bool
 fn is_barred(c: u32) -> bool
     ensures { result ≡ barred c }
 {
-    if is_within(0, 8, c) {
-        return true;
-    }
-    if is_within(0xB, 0xC, c) {
-        return true;
-    }
-    if is_within(0xE, 0x1F, c) {
-        return true;
-    }
-    c == 0x7F
+    is_within(0, 8, c) || is_within(0xB, 0xC, c) || is_within(0xE, 0x1F, c) || c == 0x7F
 }
 
 fn is_wrong_space(ty: TextType, c: u32, edge: bool) -> bool
     ensures { result ≡ wrong_space ty c edge }
 {
-    if is_white(ty, c) {
-        if edge {
-            return true;
-        }
-        return c != 32;
-    }
-    false
+    is_white(ty, c) && (edge || c != 32)
 }
 
 fn is_outside(ty: TextType, c: u32) -> bool
     ensures { result ≡ outside_id ty c }
 {
     match ty {
-        TextType::Text => false,
-        TextType::String => false,
+        TextType::Text | TextType::String => false,
         TextType::StringID => !is_within(0x20, 0x7E, c),
     }
 }
@@ -154,10 +124,7 @@ fn rule_of(ty: TextType, c: u32, edge: bool) -> u32
 fn is_edge(edge: bool, s: &[u8], next: usize) -> bool
     ensures { result ≡ (edge || closes_at s.now next) }
 {
-    if edge {
-        return true;
-    }
-    byte_at(s, next) == 34
+    edge || byte_at(s, next) == 34
 }
 
 // The earlier wrong character, or else the one at i where it breaks a rule.
@@ -165,12 +132,12 @@ fn first_of(earlier: Wrong, rule: u32, i: usize) -> Wrong
     ensures { result ≡ first_wrong earlier (wrong_here rule i) }
 {
     if 0 < earlier.rule {
-        return earlier;
+        earlier
+    } else if 0 < rule {
+        Wrong { rule, place: i }
+    } else {
+        Wrong { rule: 0, place: 0 }
     }
-    if 0 < rule {
-        return Wrong { rule, place: i };
-    }
-    Wrong { rule: 0, place: 0 }
 }
 
 // Whether a byte is a character by itself that breaks no rule of any type: U+0021 to U+007E but the quote
@@ -178,31 +145,19 @@ fn first_of(earlier: Wrong, rule: u32, i: usize) -> Wrong
 fn is_graphic(b: u8) -> bool
     ensures { result ≡ is_graphic b }
 {
-    if b == 92 {
-        return false;
-    }
-    if is_within(0x23, 0x7E, b as u32) {
-        return true;
-    }
-    if b == 34 {
-        return false;
-    }
-    is_within(0x21, 0x7E, b as u32)
+    b != 92 && (is_within(0x23, 0x7E, b as u32) || b == 33)
 }
 
 // The first place from i on that does not hold such a byte, byte by byte.
 fn bytes_end(s: &[u8], i: usize) -> usize
     ensures { result ≡ run_end s.now i }
 {
-    let mut k = i;
-    while k < s.len() {
-        if is_graphic(s[k]) {
-            k += 1;
-        } else {
+    for k in i..s.len() {
+        if !is_graphic(s[k]) {
             return k;
         }
     }
-    k
+    i.max(s.len())
 }
 
 // Which bytes of a number are no such bytes: the highest bit of each that is none. The sums are of the seven lower
@@ -321,10 +276,7 @@ fn words_end(s: &[u8], i: usize) -> usize
 fn is_edge_behind(edge: bool, i: usize, j: usize) -> bool
     ensures { result ≡ edge_behind edge i j }
 {
-    if i < j {
-        return false;
-    }
-    edge
+    edge && j <= i
 }
 
 // Whether an escape stands at j whose character breaks no rule of any type: `\u0030` to `\u007e`, a digit over 9
@@ -332,37 +284,16 @@ fn is_edge_behind(edge: bool, i: usize, j: usize) -> bool
 fn is_plain_escape(s: &[u8], j: usize) -> bool
     ensures { result ≡ true → PlainEscape s.now j }
 {
-    if s.len() < 6 {
+    if s.len() < j {
         return false;
     }
-    if s.len() - 6 < j {
+    let &[b'\\', b'u', b'0', b'0', third, last, ..] = &s[j..] else {
         return false;
-    }
-    if s[j] != 92 {
-        return false;
-    }
-    if s[j + 1] != 117 {
-        return false;
-    }
-    if s[j + 2] != 48 {
-        return false;
-    }
-    if s[j + 3] != 48 {
-        return false;
-    }
-    if !is_within(51, 55, s[j + 4] as u32) {
-        return false;
-    }
-    if is_within(48, 57, s[j + 5] as u32) {
-        return true;
-    }
-    if is_within(97, 101, s[j + 5] as u32) {
-        return true;
-    }
-    if s[j + 5] == 102 {
-        return s[j + 4] != 55;
-    }
-    false
+    };
+    is_within(51, 55, third as u32)
+        && (is_within(48, 57, last as u32)
+            || is_within(97, 101, last as u32)
+            || (last == 102 && third != 55))
 }
 
 // The string whose opening quote stands at `at`: the place behind its closing quote or its fault,
@@ -374,10 +305,10 @@ pub fn read_text(s: &[u8], at: usize, ty: TextType) -> TextRead
     let mut wrong = Wrong { rule: 0, place: 0 };
     if byte_at(s, at) != 34 {
         return TextRead {
-            reading: Reading::Fault {
+            reading: Err(Fault {
                 kind: 11,
                 place: at,
-            },
+            }),
             wrong,
         };
     }
@@ -388,7 +319,7 @@ pub fn read_text(s: &[u8], at: usize, ty: TextType) -> TextRead
         if byte_at(s, j) == 34 {
             let end = j + 1;
             return TextRead {
-                reading: Reading::Whole { end },
+                reading: Ok(end),
                 wrong,
             };
         }
@@ -405,13 +336,13 @@ pub fn read_text(s: &[u8], at: usize, ty: TextType) -> TextRead
                 }
                 Step::Close => {
                     return TextRead {
-                        reading: Reading::Whole { end: j + 1 },
+                        reading: Ok(j + 1),
                         wrong,
                     };
                 }
                 Step::Bad { kind, place } => {
                     return TextRead {
-                        reading: Reading::Fault { kind, place },
+                        reading: Err(Fault { kind, place }),
                         wrong,
                     };
                 }

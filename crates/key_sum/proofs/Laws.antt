@@ -1,7 +1,6 @@
 -- Two strings that are the same text have one sum; and one turn of the walk along a string.
 -- Assumes nothing.
-use Rattle.std.proofs.Common.{◌≡◌, ℕ, ◌+◌, ◌*◌, ◌%◌, ◌^◌, ◌<◌, true, List, [], ◌∷◌, map, sym, refl, ap, ◌∙◌, mod-lt, mul-le-mul, arith}
-use native.Mathlib.Nat.{mod-add-mod}
+use Rattle.std.proofs.Common.{◌≡◌, ℕ, ◌+◌, ◌*◌, ◌^◌, ◌<◌, true, List, [], ◌∷◌, map, sym, refl, ap, ◌∙◌, mod-lt, arith}
 use Rattle.json_chars.specs.Step.{step_at}
 use Rattle.json_chars.specs.Chars.{chars_at}
 use Rattle.json_chars.specs.declared.Step.{Step}
@@ -32,15 +31,6 @@ on_below (c ∷ cs) sum l = on_below cs (sum_with sum c) (with-below sum c)
 pub sum_below : (s : List ℕ) (at : ℕ) → key_sum s at < 2 ^ 32
 unfolding key_sum sum_of
 sum_below s at = on_below (map (cased_as Folded) (chars_at s at)) 0 (omega arith)
-
--- ---- the code's own steps
-pub product-fits : (a b : ℕ) → a < 2 ^ 32 → b < 2 ^ 32 → a * b < 2 ^ 64
-product-fits a b l m = omega (arith, mul-le-mul {n₁ = a} {m₁ = b} {n₂ = 4294967295} {m₂ = 4294967295} (omega arith) (omega arith))
-
--- a product that was wrapped, and then a sum that is
-pub wrapped : (sum c p r : ℕ) → p ≡ (31 * sum) % 2 ^ 32 → r ≡ (p + c) % 2 ^ 32 → r ≡ sum_with sum c
-unfolding sum_with
-wrapped sum c p r e f = f ∙ rw e (mod-add-mod (31 * sum) (2 ^ 32) c)
 
 -- at a place with a sum: what is left, summed from here on, gives the whole
 pub record Summed (s : List ℕ) (at i sum : ℕ) : Type 0 where

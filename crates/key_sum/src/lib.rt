@@ -1,8 +1,8 @@
 // The sum of a key where it stands: a 32-bit number that is the same for two strings that are the
 // same text, and that seldom is for two that are not. No copy is made: escapes are decoded on the way.
-#![tactic(auto)]
+#![tactic(auto, unfolding(json_bytes::specs::Reads::within, json_same::specs::Same::cased_as, crate::specs::Sum::sum_with))]
 
-ghost use Rattle.std.specs.Prelude.{◌≡◌, ◌*◌, ◌%◌, ◌^◌};
+ghost use Rattle.std.specs.Prelude.{◌≡◌};
 ghost use Rattle.json_same.specs.Same.{cased_as};
 ghost use Rattle.json_same.specs.Walk.{beginning};
 ghost use Rattle.json_same.specs.declared.Case.TheVariants.{Folded};
@@ -12,18 +12,11 @@ use json_bytes::{byte_at, is_within};
 use json_chars::{Step, step_at};
 use json_same::is_plain;
 
-// a · b, modulo 2^32: no product of two 32-bit numbers is too large for 64 bits.
-fn wrapping_mul_u32(a: u32, b: u32) -> u32
-    ensures { result ≡ (a * b) % 2 ^ 32 }
-{
-    ((a as u64) * (b as u64) % 4294967296) as u32
-}
-
 // The sum with one character more, or with another sum.
 pub fn sum_with(sum: u32, c: u32) -> u32
     ensures { result ≡ sum_with sum c }
 {
-    std::num::wrapping_add_u32(wrapping_mul_u32(31, sum), c)
+    sum.wrapping_mul(31).wrapping_add(c)
 }
 
 // A character with A–Z folded to a–z, as IDs are compared.
@@ -31,9 +24,10 @@ pub fn folded(code: u32) -> u32
     ensures { result ≡ cased_as Folded code }
 {
     if is_within(65, 90, code) {
-        return code + 32;
+        code + 32
+    } else {
+        code
     }
-    code
 }
 
 // Where the characters begin of the string whose opening quote stands at a place: behind it; and
@@ -41,10 +35,7 @@ pub fn folded(code: u32) -> u32
 pub fn beginning_of(s: &[u8], at: usize) -> usize
     ensures { result ≡ beginning s.now at }
 {
-    if byte_at(s, at) == 34 {
-        return at + 1;
-    }
-    s.len()
+    json_same::beginning_of(s, at)
 }
 
 // The sum of the string whose opening quote stands at a place; 0 where none stands there. A string

@@ -1,7 +1,7 @@
 // A loop among links, each from one class of equal IDs to another: a walk into the depth that meets a
 // class of its own way has found one, and a walk that has been through every class shows that there is
 // none. In step with the number of links.
-#![tactic(auto)]
+#![tactic(auto, unfolding(crate::specs::Links::seen_of))]
 
 ghost use Rattle.std.specs.Prelude.{◌≡◌, true, false, ℕ, ◌+◌, ◌-◌, ◌≤◌, ◌<◌, length, get_or, set, drop, ◌++◌};
 ghost use Rattle.mark_numbers.specs.Marks.{list_of};
@@ -21,12 +21,10 @@ struct Ring {
 fn all_below(from: &[usize], n: usize) -> bool
     ensures { result ≡ all_below n from.now }
 {
-    let mut i = 0;
-    while i < from.len() {
-        if from[i] >= n {
+    for c in from {
+        if *c >= n {
             return false;
         }
-        i += 1;
     }
     true
 }
@@ -52,13 +50,11 @@ fn seen(heads: &[usize], mark: &[usize], c: usize) -> usize
     ensures { result ≡ seen_of heads.now mark.now c }
 {
     let n = mark.len();
-    if c >= n {
-        return n + 1;
+    if c >= n || heads[c] >= n {
+        n + 1
+    } else {
+        mark[c]
     }
-    if heads[c] >= n {
-        return n + 1;
-    }
-    mark[c]
 }
 
 // Goes into a class by its first link, the next one on the way.
@@ -133,12 +129,10 @@ fn write_ring(way: &[usize], start: usize, end: usize, list: &mut [u32]) -> usiz
     ensures value { result ≡ end - start }
     ensures list_after { list.new ≡ list_of (λ (i : ℕ). get_or way.now (start + i) 0 + 1) (end - start) ++ drop (end - start) list.old }
 {
-    let mut i = 0;
-    while i < end - start {
+    for i in 0..end - start {
         list[i] = (way[start + i] + 1) as u32;
-        i += 1;
     }
-    i
+    end - start
 }
 
 // Shows a loop of links in lent lists.

@@ -12,6 +12,8 @@ use borrow.Author.Tests.{eq-eqb, ne_eqb, eqb-true, not-true, not-false}
 use lib.ListN.{length, get_or, set, drop, length-set, length-append, drop_of_length-le, get_or-append}
 use lib.Seq.{drop-cons, append_snoc, set_at, get_or_at, get_or-set_same, get_or-set_other, ext_get_or}
 use lib.Dec.{eqb}
+use Rattle.std.proofs.Common.{replicate}
+use Rattle.std.proofs.lemmas.List.{replicate_more}
 use Rattle.mark_numbers.specs.declared.Mark.{Mark}
 use Rattle.mark_numbers.specs.Marks.{list_of, Marks, marks_in, marks_from, mark_in, with_mark, have_length, fresh_marks, fresh_over, faults_up_to}
 
@@ -236,3 +238,15 @@ module _ (kinds : List ℕ) where
   unfolding faults_up_to
   none-if zero h = refl
   none-if (suc n) h = rw (eq-eqb _ 0 (h n (omega arith))) (none-if n (λ m l. h m (omega arith)))
+
+-- ---- lists filled with one number
+pub list-alike : (x n : ℕ) → list_of (λ m. x) n ≡ replicate n x
+unfolding list_of
+list-alike x zero = refl
+list-alike x (suc n) = rw (list-alike x n) (rw (add-one n) at (replicate_more n x))
+
+pub fresh-filled : (n : ℕ) (kinds places companions filled blank alone : List ℕ) → have_length n (marks_in kinds places companions) ≡ true → filled ≡ replicate (length kinds) 2 → blank ≡ replicate (length places) 0 → alone ≡ replicate (length companions) 0 → marks_in filled blank alone ≡ fresh_marks n
+unfolding fresh_marks marks_from
+fresh-filled n kinds places companions filled blank alone h e f g =
+    let long = lists-long n (marks_in kinds places companions) h in
+    rw (e, f, g, long.kinds-long, long.places-long, long.companions-long, list-alike 2 n, list-alike 0 n)

@@ -6,6 +6,7 @@ ghost use Rattle.std.specs.Prelude.{◌≡◌};
 ghost use Rattle.number_search.specs.Search.{below, searched};
 
 // Where halving ends: in a list in order, at the first number that is not below x, or the list's end.
+// By hand and not by partition_point: the clause says where halving ends in a list out of order too.
 pub fn front_below(numbers: &[u64], x: u64) -> usize
     ensures { result ≡ searched (below x) numbers.now }
 {

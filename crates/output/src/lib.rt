@@ -21,10 +21,8 @@ pub fn put_text(out: &mut [u8], at: usize, text: &[u8]) -> usize
     ensures { output_at out.new result ≡ put (output_at out.old at) text.now }
 {
     let mut end = at;
-    let mut i = 0;
-    while i < text.len() {
-        end = put_byte(out, end, text[i]);
-        i += 1;
+    for b in text {
+        end = put_byte(out, end, *b);
     }
     end
 }

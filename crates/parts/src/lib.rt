@@ -1,5 +1,5 @@
 // A part of lent bytes, handed back as that part itself and never a copy.
-#![tactic(auto)]
+#![tactic(auto, unfolding(crate::specs::Part::part_of))]
 
 ghost use Rattle.std.specs.Prelude.{◌≡◌};
 ghost use Rattle.parts.specs.Part.{part_of};
@@ -8,11 +8,9 @@ ghost use Rattle.parts.specs.Part.{part_of};
 pub fn part(bytes: &[u8], from: usize, to: usize) -> &[u8]
     ensures { result.now ≡ part_of bytes.now from to }
 {
-    if to < from {
-        return &bytes[..0];
+    if from <= to && to <= bytes.len() {
+        &bytes[from..to]
+    } else {
+        &bytes[..0]
     }
-    if bytes.len() < to {
-        return &bytes[..0];
-    }
-    &bytes[from..to]
 }

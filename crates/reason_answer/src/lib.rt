@@ -20,6 +20,7 @@ pub struct Shown {
     pub length: usize,
 }
 
+// Refusals and kinds stay the numbers of the documents, which the C interface hands on.
 #[derive(Clone, Copy)]
 pub enum Reason {
     // 14 for a workspace that is too short, before all else; 1, 2 and 3 for the bundle; then 7 for a

@@ -1,7 +1,7 @@
 // A reason as nine numbers in a list, for programs in other languages, which know no Rattle enum.
-#![tactic(auto)]
+#![tactic(auto, unfolding(crate::specs::Numbers::shown_numbers, crate::specs::Numbers::told_numbers, crate::specs::Numbers::told_over))]
 
-ghost use Rattle.std.specs.Prelude.{◌≡◌, length};
+ghost use Rattle.std.specs.Prelude.{◌≡◌};
 ghost use Rattle.reason_numbers.specs.Numbers.{shown_numbers, told_numbers, told_over};
 
 use reason_answer::{Reason, Shown};
@@ -27,8 +27,7 @@ fn told_numbers(told: Reason) -> [usize; 9]
     ensures { result ≡ told_numbers told }
 {
     match told {
-        Reason::Refused { refusal: _ } => [0, 0, 0, 0, 0, 0, 0, 0, 0],
-        Reason::Holds => [0, 0, 0, 0, 0, 0, 0, 0, 0],
+        Reason::Refused { refusal: _ } | Reason::Holds => [0; 9],
         Reason::NotJudged { file } => [1, 2, 0, 0, file, 0, 0, 0, 0],
         Reason::OwnMark {
             kind,
@@ -40,25 +39,11 @@ fn told_numbers(told: Reason) -> [usize; 9]
     }
 }
 
-// Puts numbers over as many others.
-fn put_numbers(out: &mut [usize], numbers: &[usize])
-    requires { length out.old ≡ length numbers.now }
-    ensures { out.new ≡ numbers.now }
-{
-    let mut k = 0;
-    while k < numbers.len() {
-        out[k] = numbers[k];
-        k += 1;
-    }
-}
-
 // Puts a reason's numbers over a list of nine; any other list is left as it is.
 pub fn put_reason(told: Reason, out: &mut [usize])
     ensures { out.new ≡ told_over told out.old }
 {
-    if out.len() != 9 {
-        return;
+    if out.len() == 9 {
+        out.copy_from_slice(&told_numbers(told));
     }
-    let numbers = told_numbers(told);
-    put_numbers(out, &numbers);
 }

@@ -1,6 +1,6 @@
 // Where the files of a set stand: three numbers a file in a lent list, and the part of one of three
-// lent slices that they say.
-#![tactic(auto)]
+// lent slices that they say. Numbers and no struct: the clauses of the public functions speak of the list of numbers.
+#![tactic(auto, unfolding(crate::specs::Standing::number_of, crate::specs::Standing::is_there, crate::specs::Standing::slice_of, crate::specs::Standing::start_standing, crate::specs::Standing::standing, crate::specs::Standing::standing_with, parts::specs::Files::bytes_of))]
 
 ghost use Rattle.std.specs.Prelude.{◌≡◌, cond, ◌+◌, ◌*◌, ◌≤◌, ◌<◌, ◌/◌, length, ltb};
 ghost use Rattle.parts.specs.Files.{bytes_of};
@@ -13,14 +13,11 @@ fn number_of(stand: &[usize], k: usize, j: usize) -> usize
     requires { j < 3 }
     ensures { result ≡ number_of stand.now k j }
 {
-    if stand.len() / 3 < k {
-        return 0;
+    if k <= stand.len() / 3 && 3 * k + j < stand.len() {
+        stand[3 * k + j]
+    } else {
+        0
     }
-    let at = 3 * k + j;
-    if stand.len() <= at {
-        return 0;
-    }
-    stand[at]
 }
 
 pub fn is_there(stand: &[usize], k: usize) -> bool
@@ -42,29 +39,23 @@ pub fn part_standing<'a>(
     let which = number_of(stand, k, 0);
     let from = number_of(stand, k, 1);
     let to = number_of(stand, k, 2);
-    if which == 0 {
-        return &a[..0];
+    match which {
+        0 => &a[..0],
+        1 => part(a, from, to),
+        2 => part(b, from, to),
+        _ => part(c, from, to),
     }
-    if which == 1 {
-        return part(a, from, to);
-    }
-    if which == 2 {
-        return part(b, from, to);
-    }
-    part(c, from, to)
 }
 
 // How long the slice is that a number stands for.
 fn slice_length(a: &[u8], b: &[u8], c: &[u8], which: usize) -> usize
     ensures { (result ≡ length (slice_of a.now b.now c.now which)) × (result < 9223372036854775808) }
 {
-    if which == 1 {
-        return a.len();
+    match which {
+        1 => a.len(),
+        2 => b.len(),
+        _ => c.len(),
     }
-    if which == 2 {
-        return b.len();
-    }
-    c.len()
 }
 
 // Where file k starts in its slice; 0 where the slice ends before that.
@@ -73,10 +64,11 @@ pub fn start_standing(a: &[u8], b: &[u8], c: &[u8], stand: &[usize], k: usize) -
 {
     let which = number_of(stand, k, 0);
     let from = number_of(stand, k, 1);
-    if slice_length(a, b, c, which) < from {
-        return 0;
+    if from <= slice_length(a, b, c, which) {
+        from
+    } else {
+        0
     }
-    from
 }
 
 // Puts file k somewhere, where the list has numbers for it.

@@ -1,10 +1,8 @@
 // Line and column of a place in a text, both from 1, for people who look for it in an editor.
-#![tactic(auto)]
+#![tactic(auto, unfolding(json_bytes::specs::Reads::within, crate::specs::Place::is_continuation, crate::specs::Place::is_line_feed))]
 
-ghost use Rattle.std.specs.Prelude.{◌≡◌, cond, ◌≤◌, ltb};
-ghost use Rattle.text_place.specs.Place.{is_continuation, spot_at};
-
-use json_bytes::is_within;
+ghost use Rattle.std.specs.Prelude.{◌≡◌};
+ghost use Rattle.text_place.specs.Place.{is_continuation, is_line_feed, spot_at};
 
 #[derive(Clone, Copy)]
 pub struct Spot {
@@ -16,37 +14,28 @@ pub struct Spot {
 pub fn is_continuation(b: u8) -> bool
     ensures { result ≡ is_continuation b }
 {
-    is_within(128, 191, b as u32)
+    (128..=191).contains(&b)
 }
 
-fn lesser(a: usize, b: usize) -> usize
-    ensures { (result ≡ cond (ltb a b) a b) × (result ≤ b) }
+fn is_line_feed(b: u8) -> bool
+    ensures { result ≡ is_line_feed b }
 {
-    if a < b {
-        return a;
-    }
-    b
+    b == b'\n'
 }
 
 // The spot of a place; that of the end for any place past it.
 pub fn line_and_column(s: &[u8], place: usize) -> Spot
     ensures { result ≡ spot_at s.now place }
 {
-    let end = lesser(place, s.len());
+    let end = place.min(s.len());
     let mut line = 1;
     let mut column = 1;
-    let mut i = 0;
-    while i < end {
-        let b = s[i];
-        if b == b'\n' {
+    for b in &s[..end] {
+        if is_line_feed(*b) {
             line += 1;
             column = 1;
-            i += 1;
-        } else if is_continuation(b) {
-            i += 1;
-        } else {
+        } else if !is_continuation(*b) {
             column += 1;
-            i += 1;
         }
     }
     Spot { line, column }

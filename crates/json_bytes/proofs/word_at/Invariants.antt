@@ -1,12 +1,7 @@
 -- `json_bytes::word_at` meets its contract: what is left of the word, read from here, answers as the whole word does.
-use Prim.Native.Nat.{◌+◌, ◌-◌, ◌≤◌}
-use mathlib.Core.Path.{◌≡◌}
-use lib.ListN.{length, drop}
+use Rattle.std.proofs.Common.{◌≡◌, ◌+◌, ◌≤◌, drop, length}
 use Rattle.json_bytes.specs.Reads.{spelled_at}
 use Rattle.json_bytes.proofs.word_at.Given as goal
 
 abbrev pub invariant-loop-k : goal.invariant-loop-k
 invariant-loop-k l = (l.k ≤ length l.word) × (spelled_at l.s l.at l.word ≡ spelled_at l.s (l.at + l.k) (drop l.k l.word))
-
-abbrev pub decreases-loop-k : goal.decreases-loop-k
-decreases-loop-k l = length l.word - l.k

@@ -1,6 +1,6 @@
 -- `json_date::decoded_date` meets its contract: the characters collected and those left are those of the string.
-use Prim.Native.Nat.{◌-◌}
 use mathlib.Core.Path.{refl, sym, ap, ◌∙◌}
+use mathlib.Core.Logic.{⊎_elim}
 use native.Mathlib.Omega.{arith}
 use lib.Seq.{length-take-le}
 use lib.Dec.{lit<}
@@ -31,10 +31,9 @@ pub slice_bounds-date_of-end : goal.slice_bounds-date_of-end
 slice_bounds-date_of-end c = sym (length-take-le _ c.loop-code.c (omega (arith, c.loop-code.invariant.size)))
 
 pub returns-in-Close : goal.returns-in-Close
-returns-in-Close c = c.date_of.ensures ∙ ap date_of (collect-close _ _ _ _ _ c.loop-code.invariant (sym c.step_at.ensures ∙ c.in-Close.is))
-
-pub slice_bounds-date_of-end-in-Bad : goal.slice_bounds-date_of-end-in-Bad
-slice_bounds-date_of-end-in-Bad c = sym (length-take-le _ c.loop-code.c (omega (arith, c.loop-code.invariant.size)))
-
-pub returns-in-Bad : goal.returns-in-Bad
-returns-in-Bad c = c.date_of-in-Bad.ensures ∙ ap date_of (collect-bad _ _ _ _ _ c.loop-code.invariant _ _ (sym c.step_at.ensures ∙ c.in-Bad.is))
+returns-in-Close c =
+    c.date_of.ensures ∙ ap date_of
+    (⊎_elim
+    (λ e. collect-close _ _ _ _ _ c.loop-code.invariant (sym c.step_at.ensures ∙ e))
+    (λ (kind, place, e). collect-bad _ _ _ _ _ c.loop-code.invariant kind place (sym c.step_at.ensures ∙ e))
+    c.in-Close.is)

@@ -1,7 +1,6 @@
 -- `json_date::decoded_date` meets its contract: the characters collected and those left are those of the string.
 use Prim.Native.Nat.{◌-◌}
 use lib.ListN.{length}
-use lib.Dec.{lit<}
 use Rattle.json_chars.specs.Chars.{chars_at}
 use Rattle.json_date.proofs.Collect.{Collected}
 use Rattle.json_date.proofs.decoded_date.Given as goal

@@ -1,5 +1,4 @@
 -- `json_number::digits_end` meets its contract: the digits from here end where all of them do.
-use Prim.Native.Nat.{◌-◌}
 use mathlib.Core.Path.{refl, sym, ◌∙◌}
 use Rattle.json_bytes.proofs.Laws.{run_more, run-stops, run_ends}
 use Rattle.json_number.specs.Number.{is_digit}

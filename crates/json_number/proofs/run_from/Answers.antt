@@ -1,5 +1,4 @@
 -- `json_number::run_from` meets its contract: the digits from here end where all of them do, and what is carried goes on.
-use Prim.Native.Nat.{◌-◌}
 use mathlib.Core.Path.{refl, sym, ◌∙◌}
 use borrow.Author.Rules.{rules}
 use Rattle.json_bytes.specs.Reads.{byte_at}

@@ -1,60 +1,18 @@
--- `json_text::is_plain_escape` meets its contract: the answer `false` tells nothing, and the tests that led to `true` make the escape.
-use Rattle.std.proofs.Common.{◌≡◌, ℕ, ◌+◌, true, false, sym, ◌∙◌, arith}
-use Rattle.json_text.proofs.Escape.{Begun, ends-ten, ends-small, ends-f}
+-- `json_text::is_plain_escape` meets its contract: the bytes that it tests make the escape.
+use Rattle.std.proofs.Common.{refl, sym, ◌∙◌, arith}
+use Rattle.json_text.proofs.Escape.{Begun, byte_behind, begun-in, ends-ten, ends-small, ends-f}
 use Rattle.json_text.proofs.is_plain_escape.Goals as goal
-use Rattle.json_text.proofs.is_plain_escape.Goals.{Else-not-is_within}
+use Rattle.json_text.proofs.is_plain_escape.Goals.{Then-is_within, then-is_within-2, else-is_within-2}
 
-untold : {A : Type 0} → false ≡ true → A
-untold e = absurd (let z : ◌≡◌ {A = ℕ} 0 1 = cc in omega arith)
-
-begun : (c : Else-not-is_within) → Begun c.args.s.now c.args.j
+begun : (c : Then-is_within) → Begun c.args.s.now c.args.j
 begun c =
-    record {
-      slash = c.if-s-j-ne92.false;
-      letter = c.if-s-j-ne117.false;
-      first = c.if-s-j-ne48.false;
-      second = c.if-s-j-ne48-2.false;
-      third = sym c.is_within.ensures ∙ c.if-not-is_within.false;
-    }
+    begun-in _ _ _ refl (omega arith) (omega arith) (omega arith) (omega arith) (sym c.is_within.ensures ∙ c.if-is_within.true)
 
-pub returns-then-s-lt6 : goal.returns-then-s-lt6
-returns-then-s-lt6 c = untold
+pub returns-then-is_within-3 : goal.returns-then-is_within-3
+returns-then-is_within-3 c = λ _. elim c.if-is_within-2.branch [
+  | then-is_within-2 w ↦ ends-ten _ _ (begun (goal.at.returns-then-is_within-3 c).Then-is_within) (rw (← byte_behind _ _ 5) (sym c.is_within-then-is_within.ensures ∙ w.if-is_within-2.true))
+  | else-is_within-2 w ↦ ends-small _ _ (begun (goal.at.returns-then-is_within-3 c).Then-is_within) (rw (← byte_behind _ _ 5) (sym w.is_within-else-is_within-2.ensures ∙ sym w.value-is ∙ c.if-is_within-3.true))
+]
 
-pub returns-then-s-j : goal.returns-then-s-j
-returns-then-s-j c = untold
-
-pub returns-then-s-j-ne92 : goal.returns-then-s-j-ne92
-returns-then-s-j-ne92 c = untold
-
-pub returns-then-s-j-ne117 : goal.returns-then-s-j-ne117
-returns-then-s-j-ne117 c = untold
-
-pub returns-then-s-j-ne48 : goal.returns-then-s-j-ne48
-returns-then-s-j-ne48 c = untold
-
-pub returns-then-s-j-ne48-2 : goal.returns-then-s-j-ne48-2
-returns-then-s-j-ne48-2 c = untold
-
-pub overflow_cast-s : goal.overflow_cast-s
-overflow_cast-s c = omega (arith, c.shared_slice_known-6-1.given (c.args.j + 4))
-
-pub returns-then-not-is_within : goal.returns-then-not-is_within
-returns-then-not-is_within c = untold
-
-pub overflow_cast-s-2 : goal.overflow_cast-s-2
-overflow_cast-s-2 c = omega (arith, c.shared_slice_known-7-1.given (c.args.j + 5))
-
-pub returns-then-is_within : goal.returns-then-is_within
-returns-then-is_within c = λ _. ends-ten _ _ (begun (goal.at.returns-then-is_within c).Else-not-is_within) (sym c.is_within-2.ensures ∙ c.if-is_within.true)
-
-pub overflow_cast-s-3 : goal.overflow_cast-s-3
-overflow_cast-s-3 c = omega (arith, c.shared_slice_known-8-1.given (c.args.j + 5))
-
-pub returns-then-is_within-2 : goal.returns-then-is_within-2
-returns-then-is_within-2 c = λ _. ends-small _ _ (begun (goal.at.returns-then-is_within-2 c).Else-not-is_within) (sym c.is_within-3.ensures ∙ c.if-is_within-2.true)
-
-pub returns-then-s-j-eq102 : goal.returns-then-s-j-eq102
-returns-then-s-j-eq102 c = ends-f _ _ (begun (goal.at.returns-then-s-j-eq102 c).Else-not-is_within) c.if-s-j-eq102.true
-
-pub returns : goal.returns
-returns c = untold
+pub returns-then-last-eq102 : goal.returns-then-last-eq102
+returns-then-last-eq102 c = λ e. ends-f _ _ (begun (goal.at.returns-then-last-eq102 c).Then-is_within) (rw (← byte_behind _ _ 5) c.if-last-eq102.true) (rw (← byte_behind _ _ 4) e)

@@ -1,6 +1,6 @@
 -- `json_text::read_text` meets its contract: what is left of the string at the loop's head, and behind the words from there on,
 -- reads as the whole does.
-use Rattle.std.proofs.Common.{◌≡◌, ◌-◌, ◌<◌, sym, ◌∙◌, arith, lit<}
+use Rattle.std.proofs.Common.{◌≡◌, sym, ◌∙◌, arith, lit<}
 use Rattle.json_bytes.specs.Reads.{byte_at}
 use Rattle.json_bytes.proofs.Laws.{inside}
 use Rattle.json_chars.proofs.Plain.{closing-step}

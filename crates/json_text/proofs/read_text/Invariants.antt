@@ -1,6 +1,6 @@
 -- `json_text::read_text` meets its contract: what is left of the string at the loop's head, and behind the words from there on,
 -- reads as the whole does.
-use Rattle.std.proofs.Common.{◌-◌, length, lit<}
+use Rattle.std.proofs.Common.{◌-◌, length}
 use Rattle.json_text.proofs.Laws.{Left}
 use Rattle.json_text.proofs.read_text.Given as goal
 

@@ -1,5 +1,5 @@
 -- `json_text::run_end` meets its contract: what is left of the run from here ends where the whole run ends.
-use Rattle.std.proofs.Common.{◌≡◌, ℕ, ◌+◌, ◌-◌, ◌<◌, List, length, sym, refl, ap, ◌∙◌, arith}
+use Rattle.std.proofs.Common.{◌≡◌, ℕ, ◌+◌, ◌<◌, List, length, sym, refl, ap, ◌∙◌, arith}
 use Rattle.json_bytes.specs.Reads.{byte_at}
 use Rattle.json_bytes.proofs.Laws.{run-stops, run_ends}
 use Rattle.json_text.specs.Run.{is_graphic, run_end}

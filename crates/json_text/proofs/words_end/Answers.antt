@@ -1,5 +1,5 @@
 -- `json_text::words_end` meets its contract: what is passed up to the loop's head stands in words.
-use Rattle.std.proofs.Common.{◌≡◌, ◌-◌, sym, ap, ◌∙◌, arith}
+use Rattle.std.proofs.Common.{◌≡◌, sym, ap, ◌∙◌, arith}
 use Rattle.json_bytes.specs.Reads.{byte_at}
 use Rattle.json_text.specs.Eight.{stop_bytes}
 use Rattle.json_text.proofs.Flags.{first-bound}

@@ -1,6 +1,6 @@
 -- `key_sum::key_sum` meets its contract: what is left, summed from here on, gives the sum of the whole.
 -- Assumes nothing.
-use Rattle.std.proofs.Common.{◌≡◌, ◌+◌, ◌-◌, sym, ◌∙◌, arith}
+use Rattle.std.proofs.Common.{◌≡◌, ◌+◌, sym, ◌∙◌, arith}
 use Rattle.json_chars.specs.Step.{step_at}
 use Rattle.json_chars.specs.declared.Step.TheVariants.{Char}
 use Rattle.json_same.proofs.Walk.{goes_on, plain_step, end-by-tag}

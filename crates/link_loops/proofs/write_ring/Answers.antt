@@ -8,10 +8,7 @@ use Rattle.link_loops.proofs.Shown.{all-written}
 use Rattle.link_loops.proofs.write_ring.Goals as goal
 
 pub loop-i-init : goal.loop-i-init
-loop-i-init c = (fill-starts _ _, omega arith)
-
-pub overflow_sub-end : goal.overflow_sub-end
-overflow_sub-end c = omega (arith, c.requires.0)
+loop-i-init c = fill-starts _ _
 
 pub overflow_add-list : goal.overflow_add-list
 overflow_add-list c = omega (arith, c.requires.1, c.requires.3)
@@ -32,16 +29,13 @@ pub offset_bounds-list-i : goal.offset_bounds-list-i
 offset_bounds-list-i c = omega (arith, c.requires.1, c.requires.3)
 
 pub bounds-list-i : goal.bounds-list-i
-bounds-list-i c = omega (arith, c.loop-i.invariant.0.long, c.requires.2)
-
-pub overflow_add-i : goal.overflow_add-i
-overflow_add-i c = omega (arith, c.requires.1, c.requires.3)
+bounds-list-i c = omega (arith, c.loop-i.invariant.long, c.requires.2)
 
 pub loop-i-preserved : goal.loop-i-preserved
-loop-i-preserved c = (fill-stores _ _ c.loop-i.invariant.0 (omega (arith, c.requires.2)) _ refl, omega arith)
+loop-i-preserved c = fill-stores _ _ c.loop-i.invariant (omega (arith, c.requires.2)) _ refl
 
 pub shape_of-list : goal.shape_of-list
-shape_of-list c = c.loop-i.invariant.0.long
+shape_of-list c = c.loop-i.invariant.long
 
 pub returns : goal.returns
-returns c = let z : c.loop-i.i ≡ c.args.end - c.args.start = omega arith in record { value = z; list_after = all-written _ _ _ _ c.loop-i.invariant.0 z }
+returns c = let z : c.loop-i.i ≡ c.args.end - c.args.start = omega arith in record { value = refl; list_after = all-written _ _ _ _ c.loop-i.invariant z }
