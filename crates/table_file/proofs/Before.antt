@@ -1,5 +1,6 @@
 -- What a file's reading gives does not hang on what the lent cells held before: its mark, the number of its records and the cells of these are
 -- the same over any cells of one length. Assumes nothing.
+use Rattle.std.specs.Prelude.{Ok, Err}
 use Prim.Native.Nat.{ℕ, zero, suc, ◌+◌, ◌*◌, ◌≤◌}
 use mathlib.Core.Path.{◌≡◌, refl, sym, ◌∙◌}
 use mathlib.Core.Bool.{Bool, true, false, cond}
@@ -10,9 +11,7 @@ use lib.ListN.{length}
 use lib.Dec.{ltb, eqb}
 use Rattle.parts.specs.Files.{File, Left, Given}
 use Rattle.json_same.specs.Same.{same_list}
-use Rattle.json_bytes.specs.Reads.{byte_at, spaces_end}
-use Rattle.json_bytes.specs.declared.Reading.{Reading}
-use Rattle.json_bytes.specs.declared.Reading.TheVariants.{Whole, Fault}
+use Rattle.json_bytes.specs.Reads.{byte_at, spaces_end, Reading}
 use Rattle.json_bytes.proofs.Laws.{either}
 use Rattle.json_bytes.proofs.Bounds.{Within, spaces-within}
 use Rattle.table_rows.specs.Rows.{Field}
@@ -74,20 +73,20 @@ module _ (width : ℕ) where
 
 -- ---- An element: what is read whole is one record more
 abbrev Upto : ℕ → ℕ → Reading → ℕ
-Upto width r (Whole end) = (r + 1) * width
-Upto width r (Fault kind place) = 0
+Upto width r (Ok end) = (r + 1) * width
+Upto width r (Err e) = 0
 
 record ElementAlike (width r : ℕ) (f g : Filled) : Type 0 where
   same_outcome : f.outcome ≡ g.outcome
   same-cells : Alike (Upto width r f.outcome) f.cells g.cells
 
 upto-record : (width r : ℕ) (o : Reading) {a b : List ℕ} → Alike (r * width + width) a b → Alike (Upto width r o) a b
-upto-record width r (Whole end) h = fewer-alike h ((r + 1) * width) (omega (arith, add-mul r 1 width))
-upto-record width r (Fault kind place) h = fewer-alike h 0 (omega arith)
+upto-record width r (Ok end) h = fewer-alike h ((r + 1) * width) (omega (arith, add-mul r 1 width))
+upto-record width r (Err e) h = fewer-alike h 0 (omega arith)
 
 upto-other : (width r : ℕ) (o : Reading) {a b : List ℕ} → Below 4096 o → length a ≡ length b → Alike (Upto width r o) a b
-upto-other width r (Whole end) l long = absurd (omega (arith, l))
-upto-other width r (Fault kind place) l long = none_alike _ _ long
+upto-other width r (Ok end) l long = absurd (omega (arith, l))
+upto-other width r (Err e) l long = none_alike _ _ long
 
 module _ (fields : List Field) (s : List ℕ) where
   -- a record, or where it has no room the fault that says so
@@ -120,24 +119,24 @@ module _ (fields : List Field) (s : List ℕ) where
   next-alike n a b r end h rest (Neither place) l = empty-alike (2 * length fields) a b h.same_length (fault 11 place 0) refl
 
   after-alike : (n : ℕ) (a b : List ℕ) (r at : ℕ) (o q : Reading) → o ≡ q → Within s at o → Alike (Upto (2 * length fields) r o) a b → (Alike ((r + 1) * (2 * length fields)) a b → (next : ℕ) → next ≤ length s → TableAlike (2 * length fields) (elements_from n fields s next a (r + 1)) (elements_from n fields s next b (r + 1))) → TableAlike (2 * length fields) (elim o [
-    | Whole end ↦
+    | Ok end ↦
         elim (next_after s end 93) [
           | More next ↦ elements_from n fields s next a (r + 1)
           | Ends last ↦ table_read a (end_of_file s (last + 1) (r + 1))
           | Neither place ↦ table_read a (fault 11 place 0)
         ]
-    | Fault kind place ↦ table_read a (fault kind place (r + 1))
+    | Err e ↦ table_read a (fault e.kind e.place (r + 1))
   ]) (elim q [
-    | Whole end ↦
+    | Ok end ↦
         elim (next_after s end 93) [
           | More next ↦ elements_from n fields s next b (r + 1)
           | Ends last ↦ table_read b (end_of_file s (last + 1) (r + 1))
           | Neither place ↦ table_read b (fault 11 place 0)
         ]
-    | Fault kind place ↦ table_read b (fault kind place (r + 1))
+    | Err e ↦ table_read b (fault e.kind e.place (r + 1))
   ])
-  after-alike n a b r at (Whole end) q e l h rest = rw (← e) (next-alike n a b r end h (rest h) (next_after s end 93) (next-in s end l.1 93 (omega arith)))
-  after-alike n a b r at (Fault kind place) q e l h rest = rw (← e) (empty-alike (2 * length fields) a b h.same_length (fault kind place (r + 1)) refl)
+  after-alike n a b r at (Ok end) q e l h rest = rw (← e) (next-alike n a b r end h (rest h) (next_after s end 93) (next-in s end l.1 93 (omega arith)))
+  after-alike n a b r at (Err x) q e l h rest = rw (← e) (empty-alike (2 * length fields) a b h.same_length (fault x.kind x.place (r + 1)) refl)
 
   elements-alike : (n : ℕ) (a b : List ℕ) (r : ℕ) → Alike (r * (2 * length fields)) a b → (at : ℕ) → at ≤ length s → TableAlike (2 * length fields) (elements_from n fields s at a r) (elements_from n fields s at b r)
   unfolding elements_from
@@ -164,14 +163,14 @@ module _ (fields : List Field) (s : List ℕ) where
   one_alike f g h = go f.outcome g.outcome h.same_outcome h.same-cells
     where
       go : (o q : Reading) → o ≡ q → Alike (Upto (2 * length fields) 0 o) f.cells g.cells → TableAlike (2 * length fields) (table_read f.cells (single_read s o)) (table_read g.cells (single_read s q))
-      go (Whole end) q e k =
+      go (Ok end) q e k =
           rw (← e) (end-alike (2 * length fields) s end 1 f.cells g.cells (fewer-alike k (1 * (2 * length fields)) (omega arith)))
-      go (Fault kind place) q e k = rw (← e) (empty-alike (2 * length fields) f.cells g.cells k.same_length (fault kind place 1) refl)
+      go (Err x) q e k = rw (← e) (empty-alike (2 * length fields) f.cells g.cells k.same_length (fault x.kind x.place 1) refl)
 
   none_read : (a b : List ℕ) → length a ≡ length b → (o : Reading) → Below 4096 o → TableAlike (2 * length fields) (single_of s (cells_filled a o)) (single_of s (cells_filled b o))
   unfolding single_of single_read
-  none_read a b long (Whole end) l = absurd (omega (arith, l))
-  none_read a b long (Fault kind place) l = empty-alike (2 * length fields) a b long (fault kind place 1) refl
+  none_read a b long (Ok end) l = absurd (omega (arith, l))
+  none_read a b long (Err e) l = empty-alike (2 * length fields) a b long (fault e.kind e.place 1) refl
 
   single-alike : (a b : List ℕ) → length a ≡ length b → (at : ℕ) → at ≤ length s → TableAlike (2 * length fields) (single_at fields s a at) (single_at fields s b at)
   unfolding single_at

@@ -1,6 +1,7 @@
 -- Reading a file leaves the cells behind its records as they were: of a file that holds, every cell that stands behind those
 -- of its records is as it was lent. Of a file with a fault nothing is said: what was read of a record stays in its cells.
 -- Assumes nothing.
+use Rattle.std.specs.Prelude.{Ok, Err}
 use Prim.Native.Nat.{ℕ, zero, suc, ◌+◌, ◌*◌, ◌≤◌}
 use mathlib.Core.Path.{◌≡◌, refl, sym, ◌∙◌}
 use mathlib.Core.Bool.{Bool, true, false, false≢true}
@@ -11,9 +12,7 @@ use lib.ListN.{length, get_or}
 use lib.Dec.{ltb, eqb}
 use Rattle.parts.specs.Files.{File, Left, Given}
 use Rattle.json_same.specs.Same.{same_list}
-use Rattle.json_bytes.specs.Reads.{byte_at, within, spaces_end}
-use Rattle.json_bytes.specs.declared.Reading.{Reading}
-use Rattle.json_bytes.specs.declared.Reading.TheVariants.{Whole, Fault}
+use Rattle.json_bytes.specs.Reads.{byte_at, within, spaces_end, Reading, fault_at}
 use Rattle.json_bytes.proofs.Laws.{either}
 use Rattle.json_bytes.proofs.Bounds.{Within, spaces-within}
 use Rattle.json_bytes.proofs.FaultKinds.{is_in, Faults, below}
@@ -48,12 +47,12 @@ use Rattle.table_file.proofs.FaultKinds.{count_of}
 
 -- ---- No fault of an element has the kind of a file that holds
 abbrev FaultNamed : Reading → Type 0
-FaultNamed (Whole end) = Unit {0}
-FaultNamed (Fault kind place) = kind ≡ 0 → ⊥
+FaultNamed (Ok end) = Unit {0}
+FaultNamed (Err e) = e.kind ≡ 0 → ⊥
 
 named_in : (ks : List ℕ) → is_in ks 0 ≡ false → (o : Reading) → Faults ks o → FaultNamed o
-named_in ks none (Whole end) h = tt
-named_in ks none (Fault kind place) h = λ e. false≢true (sym none ∙ rw e at h)
+named_in ks none (Ok end) h = tt
+named_in ks none (Err x) h = λ e. false≢true (sym none ∙ rw e at h)
 
 other-named : (s : List ℕ) (at : ℕ) → FaultNamed (not_object_at s at)
 unfolding below flat_map within text_type
@@ -121,7 +120,7 @@ module _ (fields : List Field) (s old : List ℕ) where
   element-behind now r h at l =
       either (ElementBehind (2 * length fields) old r) (eqb (byte_at s at) 123) _ _
       (either (ElementBehind (2 * length fields) old r) (ltb r 4096) _ _ (object-behind now r h at l)
-      (unread-behind now r h (Fault 20 at) (λ e. omega (arith, e))))
+      (unread-behind now r h (fault_at 20 at) (λ e. omega (arith, e))))
       (unread-behind now r h (not_object_at s at) (other-named s at))
 
   -- what follows an element, by what stands behind it
@@ -132,16 +131,16 @@ module _ (fields : List Field) (s old : List ℕ) where
     next-behind end (Neither place) l = fault-behind (2 * length fields) old now 11 place 0 (λ e. omega (arith, e))
 
     after-behind : (at : ℕ) (o : Reading) → Within s at o → FaultNamed o → TableBehind (2 * length fields) old (elim o [
-      | Whole end ↦
+      | Ok end ↦
           elim (next_after s end 93) [
             | More next ↦ elements_from n fields s next now (r + 1)
             | Ends last ↦ table_read now (end_of_file s (last + 1) (r + 1))
             | Neither place ↦ table_read now (fault 11 place 0)
           ]
-      | Fault kind place ↦ table_read now (fault kind place (r + 1))
+      | Err e ↦ table_read now (fault e.kind e.place (r + 1))
     ])
-    after-behind at (Whole end) l named = next-behind end (next_after s end 93) (next-in s end l.1 93 (omega arith))
-    after-behind at (Fault kind place) l named = fault-behind (2 * length fields) old now kind place (r + 1) named
+    after-behind at (Ok end) l named = next-behind end (next_after s end 93) (next-in s end l.1 93 (omega arith))
+    after-behind at (Err e) l named = fault-behind (2 * length fields) old now e.kind e.place (r + 1) named
 
   elements-behind : (n : ℕ) (now : List ℕ) (r : ℕ) → SameFrom (r * (2 * length fields)) old now → (at : ℕ) → at ≤ length s → TableBehind (2 * length fields) old (elements_from n fields s at now r)
   unfolding elements_from
@@ -166,8 +165,8 @@ module _ (fields : List Field) (s old : List ℕ) where
   value-behind f h = go f.outcome h.named
     where
       go : (o : Reading) → FaultNamed o → TableBehind (2 * length fields) old (table_read f.cells (single_read s o))
-      go (Whole end) named = end-behind (2 * length fields) old s end 1 f.cells h.next-same
-      go (Fault kind place) named = fault-behind (2 * length fields) old f.cells kind place 1 named
+      go (Ok end) named = end-behind (2 * length fields) old s end 1 f.cells h.next-same
+      go (Err e) named = fault-behind (2 * length fields) old f.cells e.kind e.place 1 named
 
   other-behind : (at : ℕ) → TableBehind (2 * length fields) old (single_of s (cells_filled old (not_object_at s at)))
   other-behind at =

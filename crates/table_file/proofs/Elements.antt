@@ -1,6 +1,7 @@
 -- What holds of every end that the reading of a table can come to holds of the table: one induction over its elements, for
 -- all that is said of a table's reading whatever its bytes.
 -- Assumes nothing.
+use Rattle.std.specs.Prelude.{Ok, Err}
 use Prim.Native.Nat.{ℕ, zero, suc, ◌+◌, ◌*◌, ◌≤◌, ◌<◌}
 use mathlib.Core.Path.{◌≡◌, refl, ◌∙◌}
 use mathlib.Core.Bool.{Bool, cond}
@@ -10,9 +11,7 @@ use native.Mathlib.Omega.{arith}
 use borrow.Author.Tests.{ltb-true}
 use lib.ListN.{length}
 use lib.Dec.{ltb, eqb}
-use Rattle.json_bytes.specs.Reads.{byte_at, spaces_end}
-use Rattle.json_bytes.specs.declared.Reading.{Reading}
-use Rattle.json_bytes.specs.declared.Reading.TheVariants.{Whole, Fault}
+use Rattle.json_bytes.specs.Reads.{byte_at, spaces_end, Reading, fault_at}
 use Rattle.json_bytes.proofs.Laws.{by-test, either}
 use Rattle.json_bytes.proofs.Bounds.{Within, spaces-within}
 use Rattle.table_rows.specs.Rows.{Field}
@@ -40,12 +39,12 @@ use Rattle.table_file.proofs.Laws.{element-in}
 
 -- ---- an element: one that is read whole stands behind fewer than 4,096 records
 abbrev pub Below : ℕ → Reading → Type 0
-Below r (Whole end) = r < 4096
-Below r (Fault kind place) = Unit {0}
+Below r (Ok end) = r < 4096
+Below r (Err e) = Unit {0}
 
 below_all : (r : ℕ) (o : Reading) → r < 4096 → Below r o
-below_all r (Whole end) l = l
-below_all r (Fault kind place) l = tt
+below_all r (Ok end) l = l
+below_all r (Err e) l = tt
 
 -- where no object stands nothing is read whole
 pub below_other : (s : List ℕ) (at r : ℕ) → Below r (not_object_at s at)
@@ -53,17 +52,17 @@ unfolding not_object_at not_object_of
 below_other s at r = either (Below r) (opens (byte_at s at)) _ _ tt (go (token_at s at))
   where
     go : (t : Reading) → Below r (not_object_of at t)
-    go (Whole end) = tt
-    go (Fault kind place) = tt
+    go (Ok end) = tt
+    go (Err e) = tt
 
 -- ---- The ends, with cells as many as these: a fault, of which Q holds if it holds of what each element answers, or the end
 -- of the file; no more than `most` records are read.
 pub record Ways (most : ℕ) (fields : List Field) (s cells : List ℕ) (Q : Reading → Type 0) (P : TableRead → Type 0) : Type 0 where
   pub of-record : (at : ℕ) (now : List ℕ) (r : ℕ) → length now ≡ length cells → r < most → Q (record_at fields s at now (r * (2 * length fields))).outcome
   pub of_other : (at : ℕ) → Q (not_object_at s at)
-  pub of-many : (at : ℕ) → Q (Fault 20 at)
-  pub of-stop : (at : ℕ) → Q (Fault 11 at)
-  pub of-fault : (then : List ℕ) (kind place r : ℕ) → length then ≡ length cells → Q (Fault kind place) → P (table_read then (fault kind place r))
+  pub of-many : (at : ℕ) → Q (fault_at 20 at)
+  pub of-stop : (at : ℕ) → Q (fault_at 11 at)
+  pub of-fault : (then : List ℕ) (kind place r : ℕ) → length then ≡ length cells → Q (fault_at kind place) → P (table_read then (fault kind place r))
   pub of_end : (then : List ℕ) (at records : ℕ) → length then ≡ length cells → records ≤ 4096 → P (table_read then (end_of_file s at records))
 
 -- an element, with these cells before
@@ -78,8 +77,8 @@ module _ (most : ℕ) (fields : List Field) (s cells : List ℕ) (Q : Reading �
   single-holds f e = go f.outcome
     where
       go : (r : Reading) → Q r → P (table_read f.cells (single_read s r))
-      go (Whole end) h = ways.of_end f.cells end 1 e (omega arith)
-      go (Fault kind place) h = ways.of-fault f.cells kind place 1 e h
+      go (Ok end) h = ways.of_end f.cells end 1 e (omega arith)
+      go (Err x) h = ways.of-fault f.cells x.kind x.place 1 e h
 
   module _ (table : 4096 ≤ most) where
     element-is : (at : ℕ) (now : List ℕ) (r : ℕ) → at ≤ length s → length now ≡ length cells → Element cells Q r (element_at fields s at now r)
@@ -103,17 +102,17 @@ module _ (most : ℕ) (fields : List Field) (s cells : List ℕ) (Q : Reading �
       next-holds end l (Neither place) h = ways.of-fault then 11 place 0 same (ways.of-stop place)
 
       turn_holds : (at : ℕ) (o : Reading) → Below r o → Q o → Within s at o → P (elim o [
-        | Whole end ↦
+        | Ok end ↦
             elim (next_after s end 93) [
               | More next ↦ elements_from n fields s next then (r + 1)
               | Ends last ↦ table_read then (end_of_file s (last + 1) (r + 1))
               | Neither place ↦ table_read then (fault 11 place 0)
             ]
-        | Fault kind place ↦ table_read then (fault kind place (r + 1))
+        | Err e ↦ table_read then (fault e.kind e.place (r + 1))
       ])
-      turn_holds at (Whole end) b q w =
+      turn_holds at (Ok end) b q w =
           next-holds end b (next_after s end 93) (next-in s end w.1 93 (omega arith))
-      turn_holds at (Fault kind place) b q w = ways.of-fault then kind place (r + 1) same q
+      turn_holds at (Err e) b q w = ways.of-fault then e.kind e.place (r + 1) same q
 
     elements-hold : (n at : ℕ) (now : List ℕ) (r : ℕ) → at ≤ length s → length now ≡ length cells → P (elements_from n fields s at now r)
     unfolding elements_from

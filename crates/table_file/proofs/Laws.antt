@@ -1,5 +1,6 @@
 -- Where an element stands, one turn of each loop of a file's reading, and each way through the code as an equation.
 -- Assumes nothing.
+use Rattle.std.specs.Prelude.{Ok}
 use Prim.Native.Nat.{ℕ, zero, suc, ◌+◌, ◌*◌, ◌≤◌, ◌<◌}
 use mathlib.Core.Path.{◌≡◌, refl, sym, ap, ◌∙◌}
 use mathlib.Core.Bool.{Bool, true, false, true≢false, cond, ◌&&◌}
@@ -9,9 +10,7 @@ use native.Mathlib.Omega.{arith}
 use borrow.Author.Tests.{eq-eqb, ne_eqb, lt-ltb, le-ltb, lt-leb}
 use lib.ListN.{length}
 use lib.Dec.{ltb, eqb}
-use Rattle.json_bytes.specs.Reads.{byte_at, spaces_end}
-use Rattle.json_bytes.specs.declared.Reading.{Reading}
-use Rattle.json_bytes.specs.declared.Reading.TheVariants.{Whole, Fault}
+use Rattle.json_bytes.specs.Reads.{byte_at, spaces_end, Reading, fault_at}
 use Rattle.json_bytes.proofs.Laws.{by-test}
 use Rattle.json_bytes.proofs.Bounds.{Within}
 use Rattle.parts.specs.Files.{new_file}
@@ -66,7 +65,7 @@ module _ (rows names : List ℕ) (count : ℕ) (s : List ℕ) (at : ℕ) (cells 
   element-other e x is_other = rw (← is_byte, ne_eqb b 123 e, is_other)
 
   module _ (brace : b ≡ 123) where
-    pub element-many : 4096 ≤ r → cells_filled cells (Fault 20 at) ≡ element_at fields s at cells r
+    pub element-many : 4096 ≤ r → cells_filled cells (fault_at 20 at) ≡ element_at fields s at cells r
     unfolding element_at
     element-many l = rw (← is_byte, eq-eqb b 123 brace, le-ltb r 4096 l)
 
@@ -74,7 +73,7 @@ module _ (rows names : List ℕ) (count : ℕ) (s : List ℕ) (at : ℕ) (cells 
     unfolding element_at
     element-record l = rw (← is_byte, eq-eqb b 123 brace, lt-ltb r 4096 l, fields-length rows names count 0)
 
-    pub element-wide : r < 4096 → 64 < count → cells_filled cells (Fault 99 at) ≡ element_at fields s at cells r
+    pub element-wide : r < 4096 → 64 < count → cells_filled cells (fault_at 99 at) ≡ element_at fields s at cells r
     element-wide l m =
         record-none rows names count s at cells (r * (2 * count)) false (sym (room-wide s cells (r * (2 * count)) count m)) refl
         ∙ element-record l
@@ -121,12 +120,12 @@ module _ (fields : List Field) (s : List ℕ) (whole : TableRead) (cells : List 
   cells_told : (element_at fields s at cells r).cells ≡ then
   cells_told = sym (ap (λ (f : Filled). f.cells) is_element)
 
-  fault-by : (f : ℕ) → length s < at + f → at ≤ length s → elements_from f fields s at cells r ≡ whole → (kind place : ℕ) → o ≡ Fault kind place → (companion : ℕ) → companion ≡ companion_of kind (r + 1) → table_read then (record { kind = kind; place = place; records = 0; companion = companion }) ≡ whole
+  fault-by : (f : ℕ) → length s < at + f → at ≤ length s → elements_from f fields s at cells r ≡ whole → (kind place : ℕ) → o ≡ fault_at kind place → (companion : ℕ) → companion ≡ companion_of kind (r + 1) → table_read then (record { kind = kind; place = place; records = 0; companion = companion }) ≡ whole
   unfolding elements_from
   fault-by zero m l q kind place e companion told = absurd (omega arith)
   fault-by (suc g) m l q kind place e companion told = rw told (rw (outcome-told ∙ e, elements_from, cells_told) at q)
 
-  module _ (end : ℕ) (is_whole : o ≡ Whole end) (x : Next) (is_next : x ≡ next_after s end 93) where
+  module _ (end : ℕ) (is_whole : o ≡ Ok end) (x : Next) (is_next : x ≡ next_after s end 93) where
     more_by : (f : ℕ) → length s < at + f → at ≤ length s → r ≤ at → elements_from f fields s at cells r ≡ whole → (next : ℕ) → at < next → next ≤ length s → x ≡ More next → Left fields s whole then next (r + 1)
     unfolding elements_from
     more_by zero m l p q next h k e = absurd (omega arith)
@@ -152,14 +151,14 @@ module _ (fields : List Field) (s : List ℕ) (whole : TableRead) (cells : List 
         rw (outcome-told ∙ is_whole, elements_from, sym is_next ∙ e, elements_from, cells_told) at q
 
   module _ (left : Left fields s whole cells at r) where
-    pub turn-fault : (kind place : ℕ) → o ≡ Fault kind place → (companion : ℕ) → companion ≡ companion_of kind (r + 1) → table_read then (record { kind = kind; place = place; records = 0; companion = companion }) ≡ whole
+    pub turn-fault : (kind place : ℕ) → o ≡ fault_at kind place → (companion : ℕ) → companion ≡ companion_of kind (r + 1) → table_read then (record { kind = kind; place = place; records = 0; companion = companion }) ≡ whole
     turn-fault = fault-by left.fuel left.enough left.inside left.reads
 
-    module _ (end : ℕ) (is_whole : o ≡ Whole end) (x : Next) (is_next : x ≡ next_after s end 93) where
+    module _ (end : ℕ) (is_whole : o ≡ Ok end) (x : Next) (is_next : x ≡ next_after s end 93) where
       -- the element ends behind its first byte, and what follows stands behind it
       next_place : (at < end) × ((end ≤ length s) × NextIn s end x)
       next_place =
-          let h : Within s at (Whole end) = rw (outcome-told ∙ is_whole) at (element-in fields s at cells r left.inside) in
+          let h : Within s at (Ok end) = rw (outcome-told ∙ is_whole) at (element-in fields s at cells r left.inside) in
           (h.0, (h.1, rw is_next (next-in s end h.1 93 (omega arith))))
 
       pub more-place : (next : ℕ) → x ≡ More next → (at < next) × (next ≤ length s)
@@ -206,11 +205,11 @@ module _ (fields : List Field) (s : List ℕ) (single : Bool) (from : ℕ) (befo
     unfolding single_of
     alone-told e = rw e (ap (single_of s) (is_element ∙ (ahead.alone e).1) ∙ single-element fields s from before)
 
-    pub alone-ends : single ≡ true → (end : ℕ) → o ≡ Whole end → (t : FileRead) → t ≡ end_of_file s end 1 → table_read then t ≡ whole_of
+    pub alone-ends : single ≡ true → (end : ℕ) → o ≡ Ok end → (t : FileRead) → t ≡ end_of_file s end 1 → table_read then t ≡ whole_of
     unfolding single_read
     alone-ends e end is_whole t is_end = rw is_end (rw is_whole at (alone-told e))
 
-    pub either-fault : (kind place : ℕ) → o ≡ Fault kind place → (companion : ℕ) → companion ≡ companion_of kind (r + 1) → table_read then (record { kind = kind; place = place; records = 0; companion = companion }) ≡ whole_of
+    pub either-fault : (kind place : ℕ) → o ≡ fault_at kind place → (companion : ℕ) → companion ≡ companion_of kind (r + 1) → table_read then (record { kind = kind; place = place; records = 0; companion = companion }) ≡ whole_of
     unfolding single_read
     either-fault kind place is_fault companion told = go single refl
       where

@@ -1,5 +1,6 @@
 -- 20 is given: a table with no fields and 4,097 records, the last only begun. Too long to compute, so it is shown turn by turn.
 -- Assumes nothing.
+use Rattle.std.specs.Prelude.{Ok}
 use Prim.Native.Nat.{ℕ, zero, suc, ◌+◌, ◌*◌, ◌^◌, ◌<◌}
 use mathlib.Core.Path.{◌≡◌, refl, sym, ap, ◌∙◌}
 use mathlib.Core.Bool.{Bool, false}
@@ -11,7 +12,6 @@ use lib.ListN.{length, get_or, drop}
 use lib.Dec.{lit<}
 use lib.Seq.{get_or-drop, drop-drop}
 use Rattle.json_bytes.specs.Reads.{byte_at, is_space, spaces_end}
-use Rattle.json_bytes.specs.declared.Reading.TheVariants.{Whole}
 use Rattle.json_bytes.proofs.Laws.{inside, run-stops}
 use Rattle.parts.specs.Files.{Given}
 use Rattle.table_name.specs.Name.{first_in, next_after}
@@ -80,7 +80,7 @@ module _ (s : List ℕ) where
           stays (at + 1 + 1 + 1) 123 _ behind (lit< tt) refl,
         )
 
-    element-is : (r : ℕ) → r < 4096 → element_at [] s at [] r ≡ cells_filled [] (Whole (at + 1 + 1))
+    element-is : (r : ℕ) → r < 4096 → element_at [] s at [] r ≡ cells_filled [] (Ok (at + 1 + 1))
     unfolding element_at members_of record_closed_at is_missing cleared
     element-is r l =
         rw (

@@ -1,9 +1,7 @@
 -- A table, read once: its records' cells one record behind the other, and its mark with the number of its records.
 -- Document 01: "The first fault in reading order is the mark."
-use Rattle.std.specs.Prelude.{ℕ, zero, suc, ◌+◌, ◌*◌, Bool, cond, ◌||◌, List, length, ltb, eqb}
-use Rattle.json_bytes.specs.Reads.{byte_at, within, spaces_end}
-use Rattle.json_bytes.specs.declared.Reading.{Reading}
-use Rattle.json_bytes.specs.declared.Reading.TheVariants.{Whole, Fault}
+use Rattle.std.specs.Prelude.{ℕ, zero, suc, ◌+◌, ◌*◌, Bool, cond, ◌||◌, List, length, ltb, eqb, Ok, Err}
+use Rattle.json_bytes.specs.Reads.{byte_at, within, spaces_end, Reading, fault_at}
 use Rattle.table_rows.specs.Rows.{Field}
 use Rattle.table_value.specs.Value.{not_object_at}
 use Rattle.table_name.specs.Name.{first_in, next_after}
@@ -41,8 +39,8 @@ end_of_file s at records = cond (ltb (spaces_end s at) (length s)) (fault 11 (sp
 -- ---- A singleton is an object
 -- the mark by how the file's value was read
 unfoldable pub single_read : List ℕ → Reading → FileRead
-single_read s (Whole end) = end_of_file s end 1
-single_read s (Fault kind place) = fault kind place 1
+single_read s (Ok end) = end_of_file s end 1
+single_read s (Err e) = fault e.kind e.place 1
 
 unfoldable pub single_of : List ℕ → Filled → TableRead
 single_of s f = table_read f.cells (single_read s f.outcome)
@@ -56,7 +54,7 @@ single_at fields s cells at =
 unfoldable pub element_at : List Field → List ℕ → ℕ → List ℕ → ℕ → Filled
 element_at fields s at cells r =
     cond (eqb (byte_at s at) 123)
-    (cond (ltb r 4096) (record_at fields s at cells (r * (2 * length fields))) (cells_filled cells (Fault 20 at)))
+    (cond (ltb r 4096) (record_at fields s at cells (r * (2 * length fields))) (cells_filled cells (fault_at 20 at)))
     (cells_filled cells (not_object_at s at))
 
 -- the elements one behind the other, the next at a place, behind r records; each takes a byte at least
@@ -65,13 +63,13 @@ elements_from zero fields s at cells r = table_read cells (fault 11 at 0)
 elements_from (suc n) fields s at cells r =
     let element = element_at fields s at cells r in
     elim element.outcome [
-      | Whole end ↦
+      | Ok end ↦
           elim (next_after s end 93) [
             | More next ↦ elements_from n fields s next element.cells (r + 1)
             | Ends last ↦ table_read element.cells (end_of_file s (last + 1) (r + 1))
             | Neither place ↦ table_read element.cells (fault 11 place 0)
           ]
-      | Fault kind place ↦ table_read element.cells (fault kind place (r + 1))
+      | Err e ↦ table_read element.cells (fault e.kind e.place (r + 1))
     ]
 
 unfoldable pub elements_of : List Field → List ℕ → List ℕ → Next → TableRead

@@ -1,6 +1,6 @@
 // A file of a set: its own mark, the number of its records, and where each value of each record
 // stands, found in one pass.
-#![tactic(auto)]
+#![tactic(auto, unfolding(crate::specs::Table::companion_of, crate::specs::Table::names_record, crate::specs::Table::end_of_file, crate::specs::Table::single_read, crate::specs::File::fixed_read, crate::specs::File::omitted, json_bytes::specs::Reads::within))]
 
 ghost use Rattle.std.specs.Prelude.{◌≡◌, true, false, cond, ◌≤◌, ◌<◌, length};
 ghost use Rattle.parts.specs.Files.{new_file};
@@ -11,12 +11,13 @@ ghost use Rattle.table_record.specs.Required.{required_from};
 ghost use Rattle.table_file.specs.Table.{table_read, end_of_file, single_read, single_at, element_at, elements_from, array_at, read_table, companion_of};
 ghost use Rattle.table_file.specs.File.{omitted, fixed_read, file_of, expected_from};
 
-use json_bytes::{Reading, byte_at, is_within, skip_spaces};
+use json_bytes::{Fault, Reading, byte_at, skip_spaces};
 use table_name::{Next, fill_hints, first_in, names_apart, next_after, same_bytes};
 use table_record::{fill_required, read_record};
 use table_value::not_object_at;
 
-// The forms of a file. Any other number is that of a fixed text too.
+// The forms of a file. Any other number is that of a fixed text too. No enum (what may not change): `read_file` takes
+// any number, and its contract speaks of each.
 pub const RECORDS: u32 = 0;
 
 pub const SINGLE: u32 = 1;
@@ -24,7 +25,8 @@ pub const SINGLE: u32 = 1;
 pub const FIXED: u32 = 2;
 
 // The mark of a file, kind 0 and place 0 where it holds, and how many records it then has. The mark's
-// third number is its companion: the record that a fault of a record's kind stands in.
+// third number is its companion: the record that a fault of a record's kind stands in. No Result (what may not
+// change): the clauses of `read_table` and `read_file` name these four numbers.
 #[derive(Clone, Copy)]
 pub struct FileRead {
     pub kind: u32,
@@ -38,13 +40,10 @@ pub struct FileRead {
 fn companion_of(kind: u32, number: usize) -> usize
     ensures { result ≡ companion_of kind number }
 {
-    if is_within(13, 18, kind) {
-        return number;
+    match kind {
+        13..=18 | 30..=34 => number,
+        _ => 0,
     }
-    if is_within(30, 34, kind) {
-        return number;
-    }
-    0
 }
 
 // Behind the file's value, which ends at `at`, only spaces may stand.
@@ -73,8 +72,8 @@ fn single_of(s: &[u8], reading: Reading) -> FileRead
     ensures { result ≡ single_read s.now reading }
 {
     match reading {
-        Reading::Whole { end } => end_of_file(s, end, 1),
-        Reading::Fault { kind, place } => FileRead {
+        Ok(end) => end_of_file(s, end, 1),
+        Err(Fault { kind, place }) => FileRead {
             kind,
             place,
             records: 0,
@@ -103,18 +102,18 @@ fn element_at(
         return not_object_at(s, at);
     }
     if 4096 <= r {
-        return Reading::Fault {
+        return Err(Fault {
             kind: 20,
             place: at,
-        };
+        });
     }
     // A record of so many fields has no room anywhere; told here, where its cells would start is
     // a number that fits.
     if 64 < count {
-        return Reading::Fault {
+        return Err(Fault {
             kind: 99,
             place: at,
-        };
+        });
     }
     read_record(
         s,
@@ -152,7 +151,7 @@ fn read_elements(
     let mut r = 0;
     loop {
         match element_at(s, at, rows, names, count, hints, required, cells, r) {
-            Reading::Whole { end } => {
+            Ok(end) => {
                 if single {
                     return end_of_file(s, end, 1);
                 }
@@ -174,7 +173,7 @@ fn read_elements(
                     }
                 }
             }
-            Reading::Fault { kind, place } => {
+            Err(Fault { kind, place }) => {
                 return FileRead {
                     kind,
                     place,

@@ -1,5 +1,6 @@
 -- What a cell says to whoever reads it as a rule does: `is_given`, `start_of`, and the end in the cell behind the start.
 -- Assumes nothing.
+use Rattle.std.specs.Prelude.{Ok}
 use Prim.Native.Nat.{ℕ, ◌+◌, ◌-◌, ◌*◌, ◌≤◌, ◌<◌}
 use mathlib.Core.Path.{◌≡◌, refl, sym, ap, ◌∙◌}
 use mathlib.Core.Bool.{Bool, true, false, ◌&&◌, false≢true}
@@ -11,7 +12,6 @@ use borrow.Author.Tests.{lt-ltb, ltb-true, ltb-false}
 use lib.ListN.{length, get_or, take, drop}
 use lib.Dec.{ltb, leb}
 use Rattle.json_bytes.specs.Reads.{byte_at, within}
-use Rattle.json_bytes.specs.declared.Reading.TheVariants.{Whole}
 use Rattle.json_bytes.proofs.Laws.{by-test}
 use Rattle.parts.specs.Part.{part_of}
 use Rattle.parts.proofs.Laws.{part-is}
@@ -148,7 +148,7 @@ module _ (single : Bool) (fields : List Field) (s cells : List ℕ) (n : ℕ) (m
       rw (not-given e) (by-test (λ (part : List ℕ). part ≡ []) (leb start 0 && leb 0 (length s)) _ _ (λ _. rw none) (λ _. refl))
 
   -- a given String, StringID or Text is a string with a character at least, from its opening to its closing quote
-  pub text-cell : given ≡ true → within string text (type_of fields k) ≡ true → (byte_at s start ≡ 34) × (text_read_at s start ≡ Whole end) × (start + 2 < end)
+  pub text-cell : given ≡ true → within string text (type_of fields k) ≡ true → (byte_at s start ≡ 34) × (text_read_at s start ≡ Ok end) × (start + 2 < end)
   text-cell e is_text = typed-text s start (type_of fields k) end is_text (held-value e).typed
 
 -- ---- the records

@@ -1,20 +1,19 @@
 -- Where a fault stands that only a record can have: in the record. And what a table needs of the kinds: no reader gives 0, so
 -- that a kind of 0 says that the table holds, and where no object stands no kind is a record's own.
 -- Assumes nothing.
+use Rattle.std.specs.Prelude.{Ok, Err}
 use Prim.Native.Nat.{ℕ, zero, suc, ◌+◌, ◌*◌, ◌≤◌, ◌<◌}
-use mathlib.Core.Path.{◌≡◌, refl, sym, ◌∙◌}
+use mathlib.Core.Path.{◌≡◌, refl, sym, ap, ◌∙◌}
 use mathlib.Core.Bool.{Bool, true, false, not, ◌&&◌, ◌||◌, false≢true}
 use mathlib.Core.List.{List, flat_map}
 use native.Mathlib.Omega.{arith}
 use borrow.Author.Tests.{ltb-true, lt-leb, leb-true, eqb-true, ne_eqb, not-true}
 use lib.ListN.{length}
 use lib.Dec.{ltb, leb, eqb}
-use Rattle.json_bytes.specs.Reads.{byte_at, within, literal_at}
-use Rattle.json_bytes.specs.declared.Reading.{Reading}
-use Rattle.json_bytes.specs.declared.Reading.TheVariants.{Whole, Fault}
+use Rattle.json_bytes.specs.Reads.{byte_at, within, literal_at, Reading, fault_at}
 use Rattle.json_bytes.proofs.Laws.{by-test, inside, both_left, both_right}
 use Rattle.json_bytes.proofs.Bounds.{Within}
-use Rattle.json_bytes.proofs.FaultKinds.{In, every, each, below, Faults, literal_kinds, literal-kinds}
+use Rattle.json_bytes.proofs.FaultKinds.{In, every, each, below, Faults, kind_of, literal_kinds, literal-kinds}
 use Rattle.json_chars.specs.Step.{step_at}
 use Rattle.json_chars.specs.Chars.{chars_at}
 use Rattle.json_chars.specs.declared.Step.{Step}
@@ -31,17 +30,14 @@ use Rattle.json_number.specs.declared.Value.TheVariants.{Fits, Beyond}
 use Rattle.json_number.specs.declared.Integer.{Integer}
 use Rattle.json_number.specs.declared.Integer.TheVariants.{Is, Fraction, TooLarge}
 use Rattle.json_number.proofs.FaultKinds.{number_kinds, number-kinds}
-use Rattle.json_date.specs.Date.{date_of}
-use Rattle.json_date.specs.declared.Date.{Date}
-use Rattle.json_date.specs.declared.Date.TheVariants.{Day, NoDate}
+use Rattle.json_date.specs.Date.{Date, date_of}
+use Rattle.std.specs.Prelude.{Some, None}
 use Rattle.table_rows.specs.Rows.{Field}
 use Rattle.table_value.specs.Value.{text_type, text_held, date_held, string_in, string_value, decimal_held, integer_held, number_in, number_value, literal_in, literal_value, starts_number, opens, value_at, token_at, not_object_of, not_object_at}
 use Rattle.table_value.specs.declared.ValueRead.{ValueRead}
 use Rattle.table_value.specs.declared.ValueRead.TheVariants.{Held, Null, Bad}
 use Rattle.table_value.proofs.FaultKinds.{other_kinds, not-object-kinds}
-use Rattle.table_name.specs.Name.{index_of, named_at, name_at, colon_at, first_in, next_after}
-use Rattle.table_name.specs.declared.NameRead.{NameRead}
-use Rattle.table_name.specs.declared.NameRead.TheVariants.{Unknown}
+use Rattle.table_name.specs.Name.{index_of, named_at, name_at, colon_at, first_in, next_after, NameRead}
 use Rattle.table_name.specs.declared.Next.{Next}
 use Rattle.table_name.specs.declared.Next.TheVariants.{More, Ends, Neither}
 use Rattle.table_name.proofs.FaultKinds.{colon_kinds, colon-kinds}
@@ -55,28 +51,28 @@ use Rattle.table_meaning.proofs.Record.{fault-not-whole}
 -- ---- the kinds
 -- where an object belongs and none stands, nothing is read whole, and no kind is a record's own
 abbrev pub Elsewhere : Reading → Type 0
-Elsewhere (Whole end) = ⊥
-Elsewhere (Fault kind place) = (10 ≤ kind) × (of_record kind ≡ false)
+Elsewhere (Ok end) = ⊥
+Elsewhere (Err e) = (10 ≤ e.kind) × (of_record e.kind ≡ false)
 
 elsewhere-kind : (kind : ℕ) → (leb 10 kind && not (of_record kind)) ≡ true → (10 ≤ kind) × (of_record kind ≡ false)
 elsewhere-kind kind h = (leb-true 10 kind (both_left (leb 10 kind) _ h), not-true (of_record kind) (both_right (leb 10 kind) _ h))
 
-not-whole : (s : List ℕ) (at end : ℕ) → not_object_at s at ≡ Whole end → ⊥
+not-whole : (s : List ℕ) (at end : ℕ) → not_object_at s at ≡ Ok end → ⊥
 unfolding not_object_at not_object_of
 not-whole s at end =
-    by-test (λ (r : Reading). r ≡ Whole end → ⊥) (opens (byte_at s at)) _ _ (λ _. fault-not-whole 12 at end) (λ _. go (token_at s at))
+    by-test (λ (r : Reading). r ≡ Ok end → ⊥) (opens (byte_at s at)) _ _ (λ _. fault-not-whole 12 at end) (λ _. go (token_at s at))
   where
-    go : (r : Reading) → not_object_of at r ≡ Whole end → ⊥
-    go (Whole e) = fault-not-whole 12 at end
-    go (Fault kind place) = fault-not-whole kind place end
+    go : (r : Reading) → not_object_of at r ≡ Ok end → ⊥
+    go (Ok e) = fault-not-whole 12 at end
+    go (Err e) = fault-not-whole e.kind e.place end
 
 pub other-elsewhere : (s : List ℕ) (at : ℕ) → Elsewhere (not_object_at s at)
 unfolding of_record names_record within
 other-elsewhere s at = go (not_object_at s at) (not-object-kinds s at) (not-whole s at)
   where
-    go : (r : Reading) → Faults other_kinds r → ((end : ℕ) → r ≡ Whole end → ⊥) → Elsewhere r
-    go (Whole end) h out = absurd (out end refl)
-    go (Fault kind place) h out = elsewhere-kind kind (each (λ k. leb 10 k && not (of_record k)) other_kinds refl kind h)
+    go : (r : Reading) → Faults other_kinds r → ((end : ℕ) → r ≡ Ok end → ⊥) → Elsewhere r
+    go (Ok end) h out = absurd (out end refl)
+    go (Err e) h out = elsewhere-kind e.kind (each (λ k. leb 10 k && not (of_record k)) other_kinds refl e.kind h)
 
 pub not-of-record : (kind : ℕ) → kind ≤ 12 → of_record kind ≡ false
 unfolding of_record names_record within
@@ -124,20 +120,20 @@ abbrev pub Placed : ℕ → ℕ → ℕ → Type 0
 Placed at kind place = of_record kind ≡ true → at ≤ place
 
 abbrev Found : ℕ → Reading → Type 0
-Found at (Whole end) = Unit {0}
-Found at (Fault kind place) = Placed at kind place
+Found at (Ok end) = Unit {0}
+Found at (Err e) = Placed at e.kind e.place
 
 -- of a set in which no kind is a record's own
 outside : (ks : List ℕ) → every (λ k. not (of_record k)) ks ≡ true → (at : ℕ) (r : Reading) → Faults ks r → Found at r
-outside ks all at (Whole end) h = tt
-outside ks all at (Fault kind place) h = λ e. absurd (false≢true (sym (not-true (of_record kind) (each (λ k. not (of_record k)) ks all kind h)) ∙ e))
+outside ks all at (Ok end) h = tt
+outside ks all at (Err x) h = λ e. absurd (false≢true (sym (not-true (of_record x.kind) (each (λ k. not (of_record k)) ks all x.kind h)) ∙ e))
 
 eleven : (at place : ℕ) → Placed at 11 place
 eleven at place e = absurd (false≢true (sym (not-of-record 11 (omega arith)) ∙ e))
 
 later : (at next : ℕ) → at ≤ next → (r : Reading) → Found next r → Found at r
-later at next l (Whole end) h = tt
-later at next l (Fault kind place) h = λ e. omega (arith, l, h e)
+later at next l (Ok end) h = tt
+later at next l (Err x) h = λ e. omega (arith, l, h e)
 
 sooner : (s : List ℕ) (at end : ℕ) → at ≤ end → end ≤ length s → (x : Next) → NextIn s end x → NextIn s at x
 sooner s at end l m (More next) h = (omega (arith, h.0), h.1)
@@ -175,16 +171,16 @@ module _ (s : List ℕ) (at ty : ℕ) where
 
   of-date : (end : ℕ) (d : Date) → Here (date_held at end d)
   unfolding date_held
-  of-date end (Day year month day) = tt
-  of-date end NoDate = here 17
+  of-date end (Some day) = tt
+  of-date end None = here 17
 
-  of-text : (wrong : Wrong) → WrongBehind at wrong → (r : Reading) → Found at r → Here (elim r [ Whole end ↦ string_in s at ty end wrong | Fault kind place ↦ Bad kind place ])
+  of-text : (wrong : Wrong) → WrongBehind at wrong → (r : Reading) → Found at r → Here (elim r [ Ok end ↦ string_in s at ty end wrong | Err e ↦ Bad e.kind e.place ])
   unfolding string_in text_held
-  of-text wrong behind (Whole end) h =
+  of-text wrong behind (Ok end) h =
       by-test Here (within 4 6 ty) _ _
       (λ _. by-test Here (ltb 0 wrong.rule) _ _ (λ e _. behind (ltb-true 0 wrong.rule e)) (λ _. by-test Here (eqb end (at + 2)) _ _ (λ _. tt) (λ _. tt)))
       (λ _. by-test Here (eqb ty 1) _ _ (λ _. of-date end (date_of (chars_at s at))) (λ _. here 15))
-  of-text wrong behind (Fault kind place) h = h
+  of-text wrong behind (Err e) h = h
 
   of-decimal : (end : ℕ) (v : Value) → Here (decimal_held at end v)
   unfolding decimal_held
@@ -197,18 +193,18 @@ module _ (s : List ℕ) (at ty : ℕ) where
   of-integer end Fraction = here 34
   of-integer end TooLarge = here 18
 
-  of_number : (v : Value) (r : Reading) → Found at r → Here (elim r [ Whole end ↦ number_in at ty end v | Fault kind place ↦ Bad kind place ])
+  of_number : (v : Value) (r : Reading) → Found at r → Here (elim r [ Ok end ↦ number_in at ty end v | Err e ↦ Bad e.kind e.place ])
   unfolding number_in
-  of_number v (Whole end) h =
+  of_number v (Ok end) h =
       by-test Here (eqb ty 2) _ _ (λ _. of-decimal end v)
       (λ _. by-test Here (eqb ty 3) _ _ (λ _. of-integer end (integer_of v)) (λ _. here 15))
-  of_number v (Fault kind place) h = h
+  of_number v (Err e) h = h
 
   of-literal : (r : Reading) → Found at r → Here (literal_value s at ty r)
   unfolding literal_value literal_in
-  of-literal (Whole end) h =
+  of-literal (Ok end) h =
       by-test Here (eqb (byte_at s at) 110) _ _ (λ _. tt) (λ _. by-test Here (eqb ty 0) _ _ (λ _. tt) (λ _. here 15))
-  of-literal (Fault kind place) h = h
+  of-literal (Err e) h = h
 
   value_found : Here (value_at s at ty)
   unfolding value_at string_value number_value text_read
@@ -229,21 +225,21 @@ module _ (fields : List Field) (s : List ℕ) (base : ℕ) where
 
   of-colon : (cells : List ℕ) (k end : ℕ) (r : Reading) → Within s end r → Found end r → FilledFound end (after_colon fields s cells base k r)
   unfolding after_colon
-  of-colon cells k end (Whole start) w h =
+  of-colon cells k end (Ok start) w h =
       let v = value_at s start (type_of fields k) in
       later end start (omega (arith, w.0)) (stored_value cells base k start v).outcome (stored-found cells k start v (value_found s start (type_of fields k)))
-  of-colon cells k end (Fault kind place) w h = h
+  of-colon cells k end (Err e) w h = h
 
-  of-name : (cells : List ℕ) (at : ℕ) (r : Reading) → Within s at r → Found at r → FilledFound at (after_name fields s at cells base (elim r [ Whole end ↦ named_at fields s at end | Fault kind place ↦ Unknown kind place ]))
+  of-name : (cells : List ℕ) (at : ℕ) (r : Reading) → Within s at r → Found at r → FilledFound at (after_name fields s at cells base (elim r [ Ok end ↦ named_at fields s at end | Err e ↦ Err e ]))
   unfolding after_name named_at
-  of-name cells at (Whole end) w h =
+  of-name cells at (Ok end) w h =
       let k = index_of (chars_at s at) fields in
       by-test (λ (n : NameRead). FilledFound at (after_name fields s at cells base n)) (ltb (index_of (chars_at s at) fields) (length fields)) _ _
       (λ _. by-test (FilledFound at) (is_read cells base k) _ _ (λ _ _. omega arith)
       (λ _. later at end (omega (arith, w.0)) (after_colon fields s cells base k (colon_at s end)).outcome
       (of-colon cells k end (colon_at s end) (colon-in s end w.1) (colon-found s end))))
       (λ _ _. omega arith)
-  of-name cells at (Fault kind place) w h = h
+  of-name cells at (Err e) w h = h
 
   pair_found : (cells : List ℕ) (at : ℕ) → at ≤ length s → FilledFound at (pair_at fields s at cells base)
   unfolding pair_at name_at
@@ -253,24 +249,24 @@ module _ (fields : List Field) (s : List ℕ) (base : ℕ) where
   unfolding record_closed_at
   closed-found cells at = by-test (Found at) (is_missing fields cells base 0) _ _ (λ _ _. omega arith) (λ _. tt)
 
-  of-next : (n : ℕ) (cells : List ℕ) (end : ℕ) → ((next : ℕ) → next ≤ length s → FilledFound next (pairs_from n fields s next cells base)) → (x : Next) → NextIn s end x → FilledFound end (elim x [ More next ↦ pairs_from n fields s next cells base | Ends last ↦ cells_filled cells (record_closed_at fields cells base last) | Neither place ↦ cells_filled cells (Fault 11 place) ])
+  of-next : (n : ℕ) (cells : List ℕ) (end : ℕ) → ((next : ℕ) → next ≤ length s → FilledFound next (pairs_from n fields s next cells base)) → (x : Next) → NextIn s end x → FilledFound end (elim x [ More next ↦ pairs_from n fields s next cells base | Ends last ↦ cells_filled cells (record_closed_at fields cells base last) | Neither place ↦ cells_filled cells (fault_at 11 place) ])
   of-next n cells end rest (More next) h =
       later end next (omega (arith, h.0)) (pairs_from n fields s next cells base).outcome (rest next h.1)
   of-next n cells end rest (Ends last) h = later end last h.0 (record_closed_at fields cells base last) (closed-found cells last)
   of-next n cells end rest (Neither place) h = eleven end place
 
   of_pair : (n : ℕ) (cells : List ℕ) (at : ℕ) → ((next : ℕ) → next ≤ length s → FilledFound next (pairs_from n fields s next cells base)) → (r : Reading) → Within s at r → Found at r → FilledFound at (elim r [
-    | Whole end ↦
+    | Ok end ↦
         elim (next_after s end 125) [
           | More next ↦ pairs_from n fields s next cells base
           | Ends last ↦ cells_filled cells (record_closed_at fields cells base last)
-          | Neither place ↦ cells_filled cells (Fault 11 place)
+          | Neither place ↦ cells_filled cells (fault_at 11 place)
         ]
-    | Fault kind place ↦ cells_filled cells (Fault kind place)
+    | Err e ↦ cells_filled cells (Err e)
   ])
-  of_pair n cells at rest (Whole end) w h =
+  of_pair n cells at rest (Ok end) w h =
       of-next n cells at rest (next_after s end 125) (sooner s at end (omega (arith, w.0)) w.1 (next_after s end 125) (next-in s end w.1 125 (omega arith)))
-  of_pair n cells at rest (Fault kind place) w h = h
+  of_pair n cells at rest (Err e) w h = h
 
   pairs-found : (n : ℕ) (cells : List ℕ) (at : ℕ) → at ≤ length s → FilledFound at (pairs_from n fields s at cells base)
   unfolding pairs_from
@@ -293,7 +289,7 @@ module _ (fields : List Field) (s : List ℕ) (base : ℕ) where
       (λ _. members-found (cleared cells base (2 * length fields)) at (first_in s at 125) (first-in s at 125 (omega arith)))
       (λ _ e. absurd (false≢true e))
 
-  module _ (cells : List ℕ) (at kind place : ℕ) (is : (record_at fields s at cells base).outcome ≡ Fault kind place) where
+  module _ (cells : List ℕ) (at kind place : ℕ) (is : (record_at fields s at cells base).outcome ≡ fault_at kind place) where
     pub record-placed : Placed at kind place
     record-placed = rw is at (record-found cells at)
 
@@ -306,6 +302,5 @@ module _ (fields : List Field) (s : List ℕ) (base : ℕ) where
             let h : In record_kinds kind = rw is at (record-kinds fields s base at cells room) in
             leb-true 10 kind (each (λ k. leb 10 k) record_kinds refl kind h)
         go false room =
-            let e : Fault 99 at ≡ Fault kind place = sym (no-room-99 fields s base at cells room) ∙ is in
-            let k : 99 ≡ kind = cc in
+            let k : 99 ≡ kind = ap kind_of (sym (no-room-99 fields s base at cells room) ∙ is) in
             omega arith

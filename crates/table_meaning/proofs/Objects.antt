@@ -1,5 +1,7 @@
 -- Where an object's names and values stand: between its braces, one behind the other, and within the file.
 -- Assumes nothing.
+use Rattle.table_name.specs.Name.{named as known}
+use Rattle.std.specs.Prelude.{Ok}
 use Prim.Native.Nat.{ℕ, ◌≤◌, ◌<◌}
 use mathlib.Core.Path.{◌≡◌}
 use mathlib.Core.Bool.{Bool, true, false, cond}
@@ -7,12 +9,10 @@ use mathlib.Core.List.Memᴰ
 use mathlib.Core.List.{List, map}
 use native.Mathlib.Omega.{arith}
 use lib.ListN.{length}
-use Rattle.json_bytes.specs.declared.Reading.TheVariants.{Whole}
 use Rattle.json_bytes.proofs.Bounds.{Within}
 use Rattle.table_rows.specs.Rows.{Field}
 use Rattle.table_value.specs.declared.ValueRead.TheVariants.{Held, Null}
 use Rattle.table_value.proofs.Bounds.{ValueIn, value_in}
-use Rattle.table_name.specs.declared.NameRead.TheVariants.{Known}
 use Rattle.table_name.specs.declared.Next.TheVariants.{Ends}
 use Rattle.table_record.specs.Record.{type_of}
 use Rattle.table_record.proofs.Bounds.{NameIn, name_in, colon-in, first-in}
@@ -23,8 +23,8 @@ module _ (fields : List Field) (s : List ℕ) where
   -- a name and its value stand one behind the other, and the name is one of the table's
   pub stands-in : (m : Member) → MemberStands fields s m → m.name ≤ length s → (m.field < length fields) × (m.name < m.start) × (m.start < m.end) × (m.end ≤ length s)
   stands-in m stands l =
-      let n : NameIn fields s m.name (Known m.field stands.behind) = rw stands.named at (name_in fields s m.name l) in
-      let c : Within s stands.behind (Whole m.start) = rw stands.colon at (colon-in s stands.behind n.1.1) in
+      let n : NameIn fields s m.name (known m.field stands.behind) = rw stands.named at (name_in fields s m.name l) in
+      let c : Within s stands.behind (Ok m.start) = rw stands.colon at (colon-in s stands.behind n.1.1) in
       let v = go m.null (rw stands.value at (value_in s m.start c.1 (type_of fields m.field))) in
       (n.0, omega (arith, n.1.0, c.0), v.0, v.1)
     where

@@ -1,6 +1,7 @@
 -- A record that is read whole gives what its cells say: its names one behind the other, each with its value, and the cells
 -- of each field are where the one name that is the field's has its value.
 -- Assumes nothing.
+use Rattle.std.specs.Prelude.{Ok, Err}
 use Prim.Native.Nat.{ℕ, zero, suc, ◌+◌, ◌*◌, ◌≤◌, ◌<◌}
 use mathlib.Core.Path.{◌≡◌, refl, sym, ap, ◌∙◌}
 use mathlib.Core.Bool.{Bool, true, false, cond, ◌||◌}
@@ -14,18 +15,14 @@ use borrow.Author.Tests.{ltb-false, eqb-false}
 use lib.ListN.{length, get_or, set, length-set}
 use lib.Seq.{get_or-set_same, get_or-set_other}
 use lib.Dec.{eqb}
-use Rattle.json_bytes.specs.Reads.{byte_at}
-use Rattle.json_bytes.specs.declared.Reading.{Reading}
-use Rattle.json_bytes.specs.declared.Reading.TheVariants.{Whole, Fault}
+use Rattle.json_bytes.specs.Reads.{byte_at, Reading, fault_at}
 use Rattle.json_bytes.proofs.Laws.{by-test}
 use Rattle.json_bytes.proofs.Bounds.{Within}
 use Rattle.table_rows.specs.Rows.{Field}
 use Rattle.table_value.specs.Value.{value_at}
 use Rattle.table_value.specs.declared.ValueRead.{ValueRead}
 use Rattle.table_value.specs.declared.ValueRead.TheVariants.{Held, Null, Bad}
-use Rattle.table_name.specs.Name.{name_at, colon_at, first_in, next_after}
-use Rattle.table_name.specs.declared.NameRead.{NameRead}
-use Rattle.table_name.specs.declared.NameRead.TheVariants.{Known, Unknown}
+use Rattle.table_name.specs.Name.{name_at, colon_at, first_in, next_after, NameRead, named as known}
 use Rattle.table_name.specs.declared.Next.{Next}
 use Rattle.table_name.specs.declared.Next.TheVariants.{More, Ends, Neither}
 use Rattle.table_record.specs.Record.{
@@ -102,7 +99,7 @@ neither true b e = (e, cc)
 neither false b e = (refl, e)
 
 -- ---- a name and its value
-pub fault-not-whole : {A : Type 0} (kind place end : ℕ) → Fault kind place ≡ Whole end → A
+pub fault-not-whole : {A : Type 0} (kind place end : ℕ) → fault_at kind place ≡ Ok end → A
 fault-not-whole kind place end e = let z : ◌≡◌ {A = ℕ} 0 1 = cc in absurd (omega arith)
 
 -- what goes into the end's cell
@@ -120,11 +117,11 @@ module _ (fields : List Field) (s : List ℕ) (base : ℕ) where
     is : f.cells ≡ stored cells base field start (written null end)
 
   abbrev Pairs : ℕ → List ℕ → Filled → Type 0
-  Pairs at cells f = (end : ℕ) → f.outcome ≡ Whole end → Paired at cells f end
+  Pairs at cells f = (end : ℕ) → f.outcome ≡ Ok end → Paired at cells f end
 
   module _ (at : ℕ) (cells : List ℕ) where
-    module _ (k behind : ℕ) (named : name_at fields s at ≡ Known k behind) (fresh : start_cell cells base k ≡ 0) where
-      stored-pair : (start end : ℕ) (is_null : Bool) → colon_at s behind ≡ Whole start → value_at s start (type_of fields k) ≡ cond is_null (Null end) (Held end) → Paired at cells (cells_filled (stored cells base k start (written is_null end)) (Whole end)) end
+    module _ (k behind : ℕ) (named : name_at fields s at ≡ known k behind) (fresh : start_cell cells base k ≡ 0) where
+      stored-pair : (start end : ℕ) (is_null : Bool) → colon_at s behind ≡ Ok start → value_at s start (type_of fields k) ≡ cond is_null (Null end) (Held end) → Paired at cells (cells_filled (stored cells base k start (written is_null end)) (Ok end)) end
       stored-pair start end is_null colon is_value = record {
         field = k;
         start = start;
@@ -134,7 +131,7 @@ module _ (fields : List Field) (s : List ℕ) (base : ℕ) where
         is = refl;
       }
 
-      value-pairs : (start : ℕ) → colon_at s behind ≡ Whole start → (v : ValueRead) → value_at s start (type_of fields k) ≡ v → Pairs at cells (stored_value cells base k start v)
+      value-pairs : (start : ℕ) → colon_at s behind ≡ Ok start → (v : ValueRead) → value_at s start (type_of fields k) ≡ v → Pairs at cells (stored_value cells base k start v)
       unfolding stored_value
       value-pairs start colon (Held e) is_value end w = let q : e ≡ end = cc in rw (← q) (stored-pair start e false colon is_value)
       value-pairs start colon (Null e) is_value end w = let q : e ≡ end = cc in rw (← q) (stored-pair start e true colon is_value)
@@ -142,8 +139,8 @@ module _ (fields : List Field) (s : List ℕ) (base : ℕ) where
 
       colon-pairs : (r : Reading) → colon_at s behind ≡ r → Pairs at cells (after_colon fields s cells base k r)
       unfolding after_colon
-      colon-pairs (Whole start) colon = value-pairs start colon (value_at s start (type_of fields k)) refl
-      colon-pairs (Fault kind place) colon = λ end w. fault-not-whole kind place end w
+      colon-pairs (Ok start) colon = value-pairs start colon (value_at s start (type_of fields k)) refl
+      colon-pairs (Err e) colon = λ end w. fault-not-whole e.kind e.place end w
 
     unread : (k : ℕ) → is_read cells base k ≡ false → start_cell cells base k ≡ 0
     unfolding is_read
@@ -151,10 +148,10 @@ module _ (fields : List Field) (s : List ℕ) (base : ℕ) where
 
     name-pairs : (n : NameRead) → name_at fields s at ≡ n → Pairs at cells (after_name fields s at cells base n)
     unfolding after_name
-    name-pairs (Known k behind) named =
-        by-test (Pairs at cells) (is_read cells base k) _ _ (λ _ end w. fault-not-whole 14 at end w)
-        (λ e. colon-pairs k behind named (unread k e) (colon_at s behind) refl)
-    name-pairs (Unknown kind place) named = λ end w. fault-not-whole kind place end w
+    name-pairs (Ok n) named =
+        by-test (Pairs at cells) (is_read cells base n.index) _ _ (λ _ end w. fault-not-whole 14 at end w)
+        (λ e. colon-pairs n.index n.end named (unread n.index e) (colon_at s n.end) refl)
+    name-pairs (Err e) named = λ end w. fault-not-whole e.kind e.place end w
 
     pair-pairs : Pairs at cells (pair_at fields s at cells base)
     unfolding pair_at
@@ -174,7 +171,7 @@ module _ (fields : List Field) (s : List ℕ) (base : ℕ) where
     full : is_missing fields f.cells base 0 ≡ false
 
   abbrev Rests : List ℕ → Next → Filled → Type 0
-  Rests cells next f = (end : ℕ) → f.outcome ≡ Whole end → Rest cells next f end
+  Rests cells next f = (end : ℕ) → f.outcome ≡ Ok end → Rest cells next f end
 
   abbrev Room : List ℕ → Type 0
   Room cells = base + 2 * length fields ≤ length cells
@@ -183,7 +180,7 @@ module _ (fields : List Field) (s : List ℕ) (base : ℕ) where
   unfolding record_closed_at
   closed-rest cells last end w = go (is_missing fields cells base 0) refl w
     where
-      go : (t : Bool) → is_missing fields cells base 0 ≡ t → cond t (Fault 19 last) (Whole (last + 1)) ≡ Whole end → Rest cells (Ends last) (cells_filled cells (record_closed_at fields cells base last)) end
+      go : (t : Bool) → is_missing fields cells base 0 ≡ t → cond t (fault_at 19 last) (Ok (last + 1)) ≡ Ok end → Rest cells (Ends last) (cells_filled cells (record_closed_at fields cells base last)) end
       go true e w = fault-not-whole 19 last end w
       go false e w = record {
         members = [];
@@ -240,24 +237,24 @@ module _ (fields : List Field) (s : List ℕ) (base : ℕ) where
           told = let a = rest.kept pair.field apart in (a.0 ∙ here.0, a.1 ∙ here.1)
 
   -- what follows a name and its value, by what stands behind them
-  next-rest : (n : ℕ) (cells : List ℕ) → ((next : ℕ) → next ≤ length s → Rests cells (More next) (pairs_from n fields s next cells base)) → (end : ℕ) (x : Next) → NextIn s end x → Rests cells x (elim x [ More next ↦ pairs_from n fields s next cells base | Ends last ↦ cells_filled cells (record_closed_at fields cells base last) | Neither place ↦ cells_filled cells (Fault 11 place) ])
+  next-rest : (n : ℕ) (cells : List ℕ) → ((next : ℕ) → next ≤ length s → Rests cells (More next) (pairs_from n fields s next cells base)) → (end : ℕ) (x : Next) → NextIn s end x → Rests cells x (elim x [ More next ↦ pairs_from n fields s next cells base | Ends last ↦ cells_filled cells (record_closed_at fields cells base last) | Neither place ↦ cells_filled cells (fault_at 11 place) ])
   next-rest n cells rest end (More next) h = rest next h.1
   next-rest n cells rest end (Ends last) h = closed-rest cells last
   next-rest n cells rest end (Neither place) h = λ e w. fault-not-whole 11 place e w
 
   turn-rest : (n : ℕ) (cells then : List ℕ) (at : ℕ) → Room cells → at ≤ length s → ((next : ℕ) → next ≤ length s → Rests then (More next) (pairs_from n fields s next then base)) → (r : Reading) → Within s at r → Pairs at cells (cells_filled then r) → Rests cells (More at) (elim r [
-    | Whole end ↦
+    | Ok end ↦
         elim (next_after s end 125) [
           | More next ↦ pairs_from n fields s next then base
           | Ends last ↦ cells_filled then (record_closed_at fields then base last)
-          | Neither place ↦ cells_filled then (Fault 11 place)
+          | Neither place ↦ cells_filled then (fault_at 11 place)
         ]
-    | Fault kind place ↦ cells_filled then (Fault kind place)
+    | Err e ↦ cells_filled then (Err e)
   ])
-  turn-rest n cells then at room l rest (Whole e) h pairs = λ end w.
-      pair-rest at l cells room (cells_filled then (Whole e)) e (pairs e refl) _ end
+  turn-rest n cells then at room l rest (Ok e) h pairs = λ end w.
+      pair-rest at l cells room (cells_filled then (Ok e)) e (pairs e refl) _ end
       (next-rest n then rest e (next_after s e 125) (next-in s e h.1 125 (omega arith)) end w)
-  turn-rest n cells then at room l rest (Fault kind place) h pairs = λ end w. fault-not-whole kind place end w
+  turn-rest n cells then at room l rest (Err e) h pairs = λ end w. fault-not-whole e.kind e.place end w
 
   pairs-rest : (n : ℕ) (cells : List ℕ) (at : ℕ) → Room cells → at ≤ length s → Rests cells (More at) (pairs_from n fields s at cells base)
   unfolding pairs_from
@@ -333,18 +330,18 @@ module _ (fields : List Field) (s : List ℕ) (base : ℕ) where
             full = λ k l q. rw zero-add at (holds-each f.cells fields 0 rest.full k l q);
           }
 
-    pub record-gives : byte_at s at ≡ 123 → (end : ℕ) → (record_at fields s at cells base).outcome ≡ Whole end → Gives fields s (span at end) (record_at fields s at cells base).cells base
+    pub record-gives : byte_at s at ≡ 123 → (end : ℕ) → (record_at fields s at cells base).outcome ≡ Ok end → Gives fields s (span at end) (record_at fields s at cells base).cells base
     unfolding record_at
     record-gives brace =
-        by-test (λ (f : Filled). (end : ℕ) → f.outcome ≡ Whole end → Gives fields s (span at end) f.cells base) (record_has_room s cells base (length fields)) _ _
+        by-test (λ (f : Filled). (end : ℕ) → f.outcome ≡ Ok end → Gives fields s (span at end) f.cells base) (record_has_room s cells base (length fields)) _ _
         (λ e end w. rest_gives _ end
         (members-rest (cleared cells base (2 * length fields)) at (omega (arith, (room-all s cells base (length fields) e).1.1, cleared-length cells base (2 * length fields)))
         (first_in s at 125) (first-in s at 125 (omega arith)) end w) brace)
         (λ e end w. fault-not-whole 99 at end w)
 
     -- a record that is read has 64 fields at most
-    pub record-narrow : (end : ℕ) → (record_at fields s at cells base).outcome ≡ Whole end → length fields ≤ 64
+    pub record-narrow : (end : ℕ) → (record_at fields s at cells base).outcome ≡ Ok end → length fields ≤ 64
     unfolding record_at
     record-narrow =
-        by-test (λ (f : Filled). (end : ℕ) → f.outcome ≡ Whole end → length fields ≤ 64) (record_has_room s cells base (length fields)) _ _
+        by-test (λ (f : Filled). (end : ℕ) → f.outcome ≡ Ok end → length fields ≤ 64) (record_has_room s cells base (length fields)) _ _
         (λ e _ _. (room-all s cells base (length fields) e).1.0) (λ _ end w. fault-not-whole 99 at end w)

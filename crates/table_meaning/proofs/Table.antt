@@ -1,6 +1,7 @@
 -- What a table that holds means, and in which record a fault stands: for every table or singleton, with any fields, any
 -- bytes and any cells.
 -- Assumes nothing.
+use Rattle.std.specs.Prelude.{Ok, Err}
 use Prim.Native.Nat.{ℕ, zero, suc, ◌+◌, ◌*◌, ◌≤◌, ◌<◌}
 use mathlib.Core.Path.{◌≡◌, refl, sym, ap, ◌∙◌}
 use mathlib.Core.Bool.{Bool, true, false, false≢true}
@@ -11,9 +12,7 @@ use native.Mathlib.Omega.{arith}
 use borrow.Author.Tests.{eqb-true, ltb-false}
 use lib.ListN.{length}
 use lib.Dec.{ltb, eqb}
-use Rattle.json_bytes.specs.Reads.{byte_at, spaces_end}
-use Rattle.json_bytes.specs.declared.Reading.{Reading}
-use Rattle.json_bytes.specs.declared.Reading.TheVariants.{Whole, Fault}
+use Rattle.json_bytes.specs.Reads.{byte_at, spaces_end, Reading, fault_at}
 use Rattle.json_bytes.proofs.Laws.{by-test}
 use Rattle.json_bytes.proofs.Bounds.{spaces-within}
 use Rattle.table_rows.specs.Rows.{Field}
@@ -142,19 +141,19 @@ module _ (fields : List Field) (s : List ℕ) where
     abbrev at : ℕ
     at = spaces_end s 0
 
-    single-means : (then : List ℕ) (r : Reading) → ((kind place : ℕ) → r ≡ Fault kind place → 10 ≤ kind) → ((end : ℕ) → r ≡ Whole end → (length fields ≤ 64) × Gives fields s (span at end) then 0) → (single_read s r).kind ≡ 0 → Means true fields s then (single_read s r).records
+    single-means : (then : List ℕ) (r : Reading) → ((kind place : ℕ) → r ≡ fault_at kind place → 10 ≤ kind) → ((end : ℕ) → r ≡ Ok end → (length fields ≤ 64) × Gives fields s (span at end) then 0) → (single_read s r).kind ≡ 0 → Means true fields s then (single_read s r).records
     unfolding single_read
-    single-means then (Whole end) some gives z =
+    single-means then (Ok end) some gives z =
         let g = gives end refl in
         let h = end-holds s end 1 (object-proper fields s _ _ g.1.object).1 z in
         rw h.0 (one-means then end g.0 h.1 g.1)
-    single-means then (Fault kind place) some gives z = not-zero kind (some kind place refl) z
+    single-means then (Err e) some gives z = not-zero e.kind (some e.kind e.place refl) z
 
-    single-fault : (then : List ℕ) (r : Reading) → ((kind place : ℕ) → r ≡ Fault kind place → Inside fields s at 0 kind place) → Named true fields s (table_read then (single_read s r))
+    single-fault : (then : List ℕ) (r : Reading) → ((kind place : ℕ) → r ≡ fault_at kind place → Inside fields s at 0 kind place) → Named true fields s (table_read then (single_read s r))
     unfolding single_read
-    single-fault then (Whole end) inside z = not-other _ (end-kind s end 1) z
-    single-fault then (Fault kind place) inside z =
-        let h = inside kind place refl in (
+    single-fault then (Ok end) inside z = not-other _ (end-kind s end 1) z
+    single-fault then (Err e) inside z =
+        let h = inside e.kind e.place refl in (
           1,
           refl,
           record {
@@ -173,13 +172,13 @@ module _ (fields : List Field) (s : List ℕ) where
         )
 
     -- where no object stands
-    other-kind : Elsewhere (Fault (single_of s (cells_filled cells (not_object_at s at))).read.kind 0)
+    other-kind : Elsewhere (fault_at (single_of s (cells_filled cells (not_object_at s at))).read.kind 0)
     unfolding single_of single_read
     other-kind = go (not_object_at s at) (other-elsewhere s at)
       where
-        go : (r : Reading) → Elsewhere r → Elsewhere (Fault (single_read s r).kind 0)
-        go (Whole end) h = absurd h
-        go (Fault kind place) h = h
+        go : (r : Reading) → Elsewhere r → Elsewhere (fault_at (single_read s r).kind 0)
+        go (Ok end) h = absurd h
+        go (Err e) h = h
 
     -- ---- the table
     pub table-cells : (single : Bool) → (read_table single fields s cells).read.kind ≡ 0 → Means single fields s (read_table single fields s cells).cells (read_table single fields s cells).read.records

@@ -1,5 +1,6 @@
 -- What a table means is fixed by its bytes: its records, the names and values of each, and so every cell.
 -- Assumes nothing.
+use Rattle.std.specs.Prelude.{Ok, Err}
 use Prim.Native.Nat.{ℕ, suc, ◌*◌, ◌<◌}
 use mathlib.Core.Path.{◌≡◌, refl, sym, ap, ◌∙◌}
 use mathlib.Core.Bool.{Bool, true, false, cond, false≢true}
@@ -7,13 +8,11 @@ use mathlib.Core.List.Memᴰ
 use mathlib.Core.List.{List, [], ◌∷◌, map}
 use native.Mathlib.Omega.{arith}
 use lib.ListN.{length}
-use Rattle.json_bytes.specs.declared.Reading.TheVariants.{Whole}
 use Rattle.table_rows.specs.Rows.{Field}
 use Rattle.table_value.specs.Value.{value_at}
 use Rattle.table_value.specs.declared.ValueRead.{ValueRead}
 use Rattle.table_value.specs.declared.ValueRead.TheVariants.{Held, Null}
-use Rattle.table_name.specs.Name.{name_at, colon_at, first_in, next_after}
-use Rattle.table_name.specs.declared.NameRead.TheVariants.{Known}
+use Rattle.table_name.specs.Name.{name_at, colon_at, first_in, next_after, NameRead, named as known}
 use Rattle.table_name.specs.declared.Next.{Next}
 use Rattle.table_name.specs.declared.Next.TheVariants.{More, Ends}
 use Rattle.table_record.specs.Record.{start_cell, end_cell, type_of}
@@ -31,10 +30,18 @@ same_ends x i j p q = cc
 
 module _ (fields : List Field) (s : List ℕ) where
   -- ---- a name with its value is fixed by where it stands
-  same_name : (at k b l c : ℕ) → name_at fields s at ≡ Known k b → name_at fields s at ≡ Known l c → (k ≡ l) × (b ≡ c)
-  same_name at k b l c p q = (cc, cc)
+  abbrev index_in : NameRead → ℕ
+  index_in (Ok n) = n.index
+  index_in (Err e) = 0
 
-  same_start : (at i j : ℕ) → colon_at s at ≡ Whole i → colon_at s at ≡ Whole j → i ≡ j
+  abbrev end_in : NameRead → ℕ
+  end_in (Ok n) = n.end
+  end_in (Err e) = 0
+
+  same_name : (at k b l c : ℕ) → name_at fields s at ≡ known k b → name_at fields s at ≡ known l c → (k ≡ l) × (b ≡ c)
+  same_name at k b l c p q = (ap index_in (sym p ∙ q), ap end_in (sym p ∙ q))
+
+  same_start : (at i j : ℕ) → colon_at s at ≡ Ok i → colon_at s at ≡ Ok j → i ≡ j
   same_start at i j p q = cc
 
   same-value : (v : ValueRead) (a b : Bool) (i j : ℕ) → v ≡ cond a (Null i) (Held i) → v ≡ cond b (Null j) (Held j) → (a ≡ b) × (i ≡ j)

@@ -1,8 +1,9 @@
 -- One walk over the elements of an array: the records that are read whole stand one behind the other, each gives what its
 -- own cells say, for what is read behind a record leaves its cells as they are, and then the array closes or a fault stands.
 -- Assumes nothing.
+use Rattle.std.specs.Prelude.{Ok, Err}
 use Prim.Native.Nat.{ℕ, zero, suc, ◌+◌, ◌*◌, ◌≤◌, ◌<◌}
-use mathlib.Core.Path.{◌≡◌, refl, ◌∙◌}
+use mathlib.Core.Path.{◌≡◌, refl, ap, ◌∙◌}
 use mathlib.Core.Logic.{◌⊎◌, inl, inr, ⊎_elim}
 use mathlib.Core.List.Memᴰ
 use mathlib.Core.List.{List, [], ◌∷◌}
@@ -12,9 +13,8 @@ use native.Mathlib.Omega.{arith}
 use borrow.Author.Tests.{eqb-true, ltb-true}
 use lib.ListN.{length, get_or}
 use lib.Dec.{ltb, eqb}
-use Rattle.json_bytes.specs.Reads.{byte_at, within}
-use Rattle.json_bytes.specs.declared.Reading.{Reading}
-use Rattle.json_bytes.specs.declared.Reading.TheVariants.{Whole, Fault}
+use Rattle.json_bytes.proofs.FaultKinds.{kind_of}
+use Rattle.json_bytes.specs.Reads.{byte_at, within, Reading, fault_at}
 use Rattle.json_bytes.proofs.Laws.{by-test}
 use Rattle.json_bytes.proofs.Bounds.{Within}
 use Rattle.table_rows.specs.Rows.{Field}
@@ -52,12 +52,12 @@ module _ (fields : List Field) (s : List ℕ) where
   pub record Inside (at r kind place : ℕ) : Type 0 where
     pub brace : byte_at s at ≡ 123
     pub then : List ℕ
-    pub reads : (record_at fields s at then (r * record_width fields)).outcome ≡ Fault kind place
+    pub reads : (record_at fields s at then (r * record_width fields)).outcome ≡ fault_at kind place
     pub some : 10 ≤ kind
     pub placed : Placed at kind place
     pub ends : place ≤ length s
 
-  pub inside_is : (at : ℕ) → at ≤ length s → byte_at s at ≡ 123 → (then : List ℕ) (r kind place : ℕ) → (record_at fields s at then (r * record_width fields)).outcome ≡ Fault kind place → Inside at r kind place
+  pub inside_is : (at : ℕ) → at ≤ length s → byte_at s at ≡ 123 → (then : List ℕ) (r kind place : ℕ) → (record_at fields s at then (r * record_width fields)).outcome ≡ fault_at kind place → Inside at r kind place
   inside_is at l brace then r kind place w = record {
     brace = brace;
     then = then;
@@ -68,25 +68,25 @@ module _ (fields : List Field) (s : List ℕ) where
   }
 
   abbrev pub Failed : ℕ → ℕ → ℕ → ℕ → Type 0
-  Failed at r kind place = Inside at r kind place ⊎ Elsewhere (Fault kind place)
+  Failed at r kind place = Inside at r kind place ⊎ Elsewhere (fault_at kind place)
 
   pub failed-kind : (at r kind place : ℕ) → Failed at r kind place → 10 ≤ kind
   failed-kind at r kind place (inl h) = h.some
   failed-kind at r kind place (inr h) = h.0
 
   record Element (at : ℕ) (cells : List ℕ) (r : ℕ) (f : Filled) : Type 0 where
-    gives : (end : ℕ) → f.outcome ≡ Whole end → Gives fields s (span at end) f.cells (r * record_width fields)
-    small : (end : ℕ) → f.outcome ≡ Whole end → (r < 4096) × (length fields ≤ 64)
-    fails : (kind place : ℕ) → f.outcome ≡ Fault kind place → Failed at r kind place
+    gives : (end : ℕ) → f.outcome ≡ Ok end → Gives fields s (span at end) f.cells (r * record_width fields)
+    small : (end : ℕ) → f.outcome ≡ Ok end → (r < 4096) × (length fields ≤ 64)
+    fails : (kind place : ℕ) → f.outcome ≡ fault_at kind place → Failed at r kind place
     kept : (i : ℕ) → i < r * record_width fields → get_or f.cells i 0 ≡ get_or cells i 0
 
   -- an answer that is no record's
   elsewhere : (at : ℕ) (cells : List ℕ) (r : ℕ) (o : Reading) → Elsewhere o → Element at cells r (cells_filled cells o)
-  elsewhere at cells r (Whole end) h = absurd h
-  elsewhere at cells r (Fault kind place) h = record {
-    gives = λ end w. fault-not-whole kind place end w;
-    small = λ end w. fault-not-whole kind place end w;
-    fails = λ k p w. inr (let a : kind ≡ k = cc in rw (← a) h);
+  elsewhere at cells r (Ok end) h = absurd h
+  elsewhere at cells r (Err e) h = record {
+    gives = λ end w. fault-not-whole e.kind e.place end w;
+    small = λ end w. fault-not-whole e.kind e.place end w;
+    fails = λ k p w. inr (let a : e.kind ≡ k = ap kind_of w in rw (← a) h);
     kept = λ i l. refl;
   }
 
@@ -102,7 +102,7 @@ module _ (fields : List Field) (s : List ℕ) where
         fails = λ kind place w. inl (inside_is at l brace cells r kind place w);
         kept = λ i m. (record-in fields s (r * record_width fields) cells at l).kept.outside i (λ n _. omega arith);
       })
-      (λ _. elsewhere at cells r (Fault 20 at) (omega arith, refl)))
+      (λ _. elsewhere at cells r (fault_at 20 at) (omega arith, refl)))
       (λ _. elsewhere at cells r (not_object_at s at) (other-elsewhere s at))
 
   -- ---- the elements from a place on, behind r records
@@ -143,7 +143,7 @@ module _ (fields : List Field) (s : List ℕ) where
   next-base r = rw add-one (suc-mul r (record_width fields))
 
   -- one record more, before the rest
-  module _ (at : ℕ) (cells : List ℕ) (r : ℕ) (f : Filled) (element : Element at cells r f) (e : ℕ) (whole : f.outcome ≡ Whole e) (g : TableRead) (more : Walk f.cells (r + 1) (next_after s e 93) g) where
+  module _ (at : ℕ) (cells : List ℕ) (r : ℕ) (f : Filled) (element : Element at cells r f) (e : ℕ) (whole : f.outcome ≡ Ok e) (g : TableRead) (more : Walk f.cells (r + 1) (next_after s e 93) g) where
     first_gives : Gives fields s (span at e) g.cells (r * record_width fields)
     first_gives =
         gives-kept fields s (span at e) f.cells g.cells (r * record_width fields)
@@ -179,19 +179,19 @@ module _ (fields : List Field) (s : List ℕ) where
   next-walk n cells r more end (Neither place) h = stopped cells cells r (Neither place) _ (λ i l. refl) (Breaks place refl)
 
   turn-walk : (n at : ℕ) → at ≤ length s → (cells then : List ℕ) (r : ℕ) → ((next : ℕ) → next ≤ length s → Walk then (r + 1) (More next) (elements_from n fields s next then (r + 1))) → (o : Reading) → Within s at o → Element at cells r (cells_filled then o) → Walk cells r (More at) (elim o [
-    | Whole end ↦
+    | Ok end ↦
         elim (next_after s end 93) [
           | More next ↦ elements_from n fields s next then (r + 1)
           | Ends last ↦ table_read then (end_of_file s (last + 1) (r + 1))
           | Neither place ↦ table_read then (fault 11 place 0)
         ]
-    | Fault kind place ↦ table_read then (fault kind place (r + 1))
+    | Err e ↦ table_read then (fault e.kind e.place (r + 1))
   ])
-  turn-walk n at l cells then r more (Whole e) h element =
-      one_more at cells r (cells_filled then (Whole e)) element e refl _
+  turn-walk n at l cells then r more (Ok e) h element =
+      one_more at cells r (cells_filled then (Ok e)) element e refl _
       (next-walk n then (r + 1) more e (next_after s e 93) (next-in s e h.1 93 (omega arith)))
-  turn-walk n at l cells then r more (Fault kind place) h element =
-      stopped cells then r (More at) _ element.kept (Fails at kind place refl l (element.fails kind place refl) refl)
+  turn-walk n at l cells then r more (Err e) h element =
+      stopped cells then r (More at) _ element.kept (Fails at e.kind e.place refl l (element.fails e.kind e.place refl) refl)
 
   elements-walk : (n at : ℕ) → at ≤ length s → (cells : List ℕ) (r : ℕ) → Walk cells r (More at) (elements_from n fields s at cells r)
   unfolding elements_from

@@ -1,8 +1,7 @@
 -- The record that a fault stands in. Document 02, order 5: "for 13 to 18 and 30 to 34 the record's number", which is one more
 -- than the number of records that are whole before it.
 use Rattle.std.specs.Prelude.{ℕ, ◌+◌, ◌*◌, ◌<◌, ◌≤◌, ◌≡◌, Bool, true, false, ◌||◌, List, [], length, eqb}
-use Rattle.json_bytes.specs.Reads.{byte_at, spaces_end}
-use Rattle.json_bytes.specs.declared.Reading.TheVariants.{Fault}
+use Rattle.json_bytes.specs.Reads.{byte_at, spaces_end, fault_at}
 use Rattle.table_rows.specs.Rows.{Field}
 use Rattle.table_name.specs.Name.{first_in}
 use Rattle.table_name.specs.declared.Next.TheVariants.{More}
@@ -30,6 +29,6 @@ pub record FaultIn (single : Bool) (fields : List Field) (s cells : List ℕ) (r
   pub before : (i : ℕ) → i < length records → (record_in records i).to < at
   pub brace : byte_at s at ≡ 123
   pub then : List ℕ
-  pub reads : (record_at fields s at then (length records * record_width fields)).outcome ≡ Fault kind place
+  pub reads : (record_at fields s at then (length records * record_width fields)).outcome ≡ fault_at kind place
   pub behind : at ≤ place
   pub inside : place ≤ length s

@@ -2,15 +2,13 @@
 -- stands; and that the record's cells are these places. It is said of the bytes, so that whoever takes a value from a cell
 -- need not know how the cell was filled: a rule, a reason that shows a value, an entry of a lookup.
 -- Records and fields are counted from 0. Brackets are the bytes 91 and 93, braces 123 and 125.
-use Rattle.std.specs.Prelude.{ℕ, ◌+◌, ◌*◌, ◌<◌, ◌≤◌, ◌≡◌, Bool, true, false, cond, length, get_or}
+use Rattle.std.specs.Prelude.{ℕ, ◌+◌, ◌*◌, ◌<◌, ◌≤◌, ◌≡◌, Bool, true, false, cond, length, get_or, Ok}
 use mathlib.Core.List.{List, [], ◌∷◌, map, Memᴰ}
 use Rattle.json_bytes.specs.Reads.{byte_at, spaces_end}
-use Rattle.json_bytes.specs.declared.Reading.TheVariants.{Whole}
 use Rattle.table_rows.specs.Rows.{Field}
 use Rattle.table_value.specs.Value.{value_at}
 use Rattle.table_value.specs.declared.ValueRead.TheVariants.{Held, Null}
-use Rattle.table_name.specs.Name.{name_at, colon_at, first_in, next_after}
-use Rattle.table_name.specs.declared.NameRead.TheVariants.{Known}
+use Rattle.table_name.specs.Name.{name_at, colon_at, first_in, next_after, named as known}
 use Rattle.table_name.specs.declared.Next.{Next}
 use Rattle.table_name.specs.declared.Next.TheVariants.{More, Ends}
 use Rattle.table_record.specs.Record.{start_cell, end_cell, type_of}
@@ -54,8 +52,8 @@ span_of m = span m.name m.end
 -- it stands so in the file: the name is the field's, behind it a colon, and behind that a value that belongs in the field
 pub record MemberStands (fields : List Field) (s : List ℕ) (m : Member) : Type 0 where
   pub behind : ℕ
-  pub named : name_at fields s m.name ≡ Known m.field behind
-  pub colon : colon_at s behind ≡ Whole m.start
+  pub named : name_at fields s m.name ≡ known m.field behind
+  pub colon : colon_at s behind ≡ Ok m.start
   pub value : value_at s m.start (type_of fields m.field) ≡ cond m.null (Null m.end) (Held m.end)
 
 -- ---- A record

@@ -5,9 +5,10 @@ use Prim.Native.Nat.{ℕ, zero, suc, ◌+◌, ◌-◌, ◌*◌, ◌≤◌, ◌<�
 use mathlib.Core.Path.{◌≡◌, refl, sym, ap, ◌∙◌}
 use mathlib.Core.Bool.{Bool, true, false, cond, ◌&&◌}
 use mathlib.Core.List.{List, [], ◌∷◌}
-use native.Mathlib.Nat.{zero-add, not-suc-le-zero}
+use native.Mathlib.Nat.{not-suc-le-zero}
+use native.Mathlib.Numerals.{add-one}
 use native.Mathlib.Omega.{arith}
-use borrow.Author.Tests.{eq-eqb, ne_eqb, lt-ltb, le-ltb, ltb-true, leb-true, eqb-true, eqb-false}
+use borrow.Author.Tests.{eq-eqb, ne_eqb, lt-ltb, ltb-true, leb-true, eqb-true, eqb-false}
 use lib.ListN.{length, get_or, take, drop}
 use lib.Seq.{get_or-drop}
 use lib.Dec.{ltb, leb, eqb, lit<}
@@ -21,21 +22,12 @@ use Rattle.json_same.proofs.Laws.{same-equal}
 use Rattle.parts.specs.Part.{part_of}
 use Rattle.parts.proofs.Laws.{part-is}
 use Rattle.table_rows.specs.Rows.{cell_at, name_start, name_end, field_name_at, fields_from}
-use Rattle.table_name.specs.Name.{index_of, name_at}
+use Rattle.table_name.specs.Name.{index_of, named, unnamed, name_at}
 use Rattle.table_name.specs.Guess.{graphic_word, own_name, own_below, names_apart, quoted_end, guess_end}
-use Rattle.table_name.specs.declared.NameRead.TheVariants.{Known, Unknown}
 use Rattle.table_name.proofs.Words.{taken-long, name-plain}
 
 -- ---- a word of bytes that stand for themselves
 module _ (word : List ℕ) where
-  pub graphic-empty : length word ≡ 0 → graphic_word word ≡ false
-  unfolding graphic_word
-  graphic-empty e = rw (le-ltb 0 (length word) (omega (arith, e)))
-
-  pub graphic-told : (length word ≡ 0 → ⊥) → (j : ℕ) → j ≡ run_end word 0 → eqb j (length word) ≡ graphic_word word
-  unfolding graphic_word run_end
-  graphic-told n j is = rw (lt-ltb 0 (length word) (omega (arith, n)), is, zero-add)
-
   module _ (e : graphic_word word ≡ true) where
     pub graphic-some : 0 < length word
     unfolding graphic_word
@@ -56,33 +48,6 @@ module _ (rows names : List ℕ) (count k : ℕ) where
     unfolding guess_end
     guess-told s at end is = is ∙ ap (λ w. quoted_end w s at) word_of
 
-    pub own-told : graphic_word word ≡ true → (i : ℕ) → i ≡ index_of word (fields_from rows names count 0) → eqb i k ≡ own_name rows names count k
-    unfolding own_name
-    own-told g i is = rw (← word_of, g) (ap (λ n. eqb n k) is)
-
-    pub own-dim : graphic_word word ≡ false → own_name rows names count k ≡ false
-    unfolding own_name
-    own-dim g = rw (← word_of, g)
-
-  module _ (n : ℕ) (e : n ≡ k + 1) where
-    pub below_more : own_name rows names count k ≡ true → own_below rows names count n ≡ own_below rows names count k
-    unfolding own_below
-    below_more o =
-        let s : n ≡ suc k = omega (arith, e) in
-        rw (s, own_below, o)
-
-    pub below_fails : own_name rows names count k ≡ false → own_below rows names count n ≡ false
-    unfolding own_below
-    below_fails o =
-        let s : n ≡ suc k = omega (arith, e) in
-        rw (s, own_below, o)
-
-  pub below_none : k ≤ 0 → own_below rows names count k ≡ true
-  unfolding own_below
-  below_none l =
-      let z : k ≡ 0 = omega arith in
-      rw (z, own_below)
-
 below-own : (rows names : List ℕ) (count k n : ℕ) → own_below rows names count n ≡ true → k < n → own_name rows names count k ≡ true
 unfolding own_below
 below-own rows names count k zero e l = absurd (not-suc-le-zero l)
@@ -98,6 +63,25 @@ below-own rows names count k (suc n) e l =
 pub apart-own : (rows names : List ℕ) (count k : ℕ) → names_apart rows names count ≡ true → k < count → own_name rows names count k ≡ true
 unfolding names_apart
 apart-own rows names count k = below-own rows names count k count
+
+-- one more field that has a name of its own, and one that has none
+module _ (rows names : List ℕ) (count k : ℕ) where
+  pub own_more : own_below rows names count k ≡ true → own_name rows names count k ≡ true → own_below rows names count (k + 1) ≡ true
+  unfolding own_below
+  own_more e o = rw (add-one k, own_below, o) e
+
+  pub own_fails : k < count → own_name rows names count k ≡ false → own_below rows names count count ≡ false
+  own_fails l o = go (own_below rows names count count) refl
+    where
+      go : (t : Bool) → own_below rows names count count ≡ t → t ≡ false
+      go true e = sym (below-own rows names count k count e l) ∙ o
+      go false e = refl
+
+pub own_none : (rows names : List ℕ) (count : ℕ) → own_below rows names count 0 ≡ true
+unfolding own_below
+own_none rows names count = refl
+
+pub ruleset apart = (own_none, own_more, own_fails)
 
 -- ---- where a name stands
 -- a part that has a byte is no turned or past one
@@ -144,14 +128,18 @@ module _ (word s : List ℕ) (at : ℕ) where
   pub quoted-past : length s ≤ at + 1 + length word → quoted_end word s at ≡ 0
   quoted-past l = quoted-goes-on (λ e. omega (arith, e, inside s (at + 1 + length word) 34 e (lit< tt)))
 
-  module _ (opens : byte_at s at ≡ 34) (close : byte_at s (at + 1 + length word) ≡ 34) (there : List ℕ) (is : there ≡ part_of s (at + 1) (at + 1 + length word)) where
-    pub quoted-same : same_list there word ≡ true → at + 1 + length word + 1 ≡ quoted_end word s at
-    unfolding quoted_end
-    quoted-same e = rw (eq-eqb (byte_at s at) 34 opens, eq-eqb (byte_at s (at + 1 + length word)) 34 close, ← is, e) (omega arith)
+  -- the bytes there are the word
+  module _ (opens : byte_at s at ≡ 34) (close : byte_at s (at + 1 + length word) ≡ 34) where
+    bytes : take (at + 1 + length word - (at + 1)) (drop (at + 1) s) ≡ part_of s (at + 1) (at + 1 + length word)
+    bytes = sym (part-is s (at + 1) (at + 1 + length word) (omega arith) (omega (arith, inside s (at + 1 + length word) 34 close (lit< tt))))
 
-    pub quoted-other : same_list there word ≡ false → quoted_end word s at ≡ 0
+    pub quoted_same : same_list (take (at + 1 + length word - (at + 1)) (drop (at + 1) s)) word ≡ true → quoted_end word s at ≡ at + 1 + length word + 1
     unfolding quoted_end
-    quoted-other e = rw (eq-eqb (byte_at s at) 34 opens, eq-eqb (byte_at s (at + 1 + length word)) 34 close, ← is, e)
+    quoted_same e = rw (eq-eqb (byte_at s at) 34 opens, eq-eqb (byte_at s (at + 1 + length word)) 34 close, ← bytes, e) (omega arith)
+
+    pub quoted_other : same_list (take (at + 1 + length word - (at + 1)) (drop (at + 1) s)) word ≡ false → quoted_end word s at ≡ 0
+    unfolding quoted_end
+    quoted_other e = rw (eq-eqb (byte_at s at) 34 opens, eq-eqb (byte_at s (at + 1 + length word)) 34 close, ← bytes, e)
 
   -- ---- what it says
   record Quoted : Type 0 where
@@ -175,6 +163,8 @@ module _ (word s : List ℕ) (at : ℕ) where
       go true true false p q r h = absurd (not-suc-le-zero h)
       go true false v p q r h = absurd (not-suc-le-zero h)
       go false u v p q r h = absurd (not-suc-le-zero h)
+
+pub ruleset quoting = (quoted-unopened, quoted-goes-on, quoted-past, quoted_same, quoted_other)
 
 -- ---- the run of bytes behind the opening quote ends with the word
 run-quoted : (w l : List ℕ) → leading is_graphic w ≡ length w → take (length w) l ≡ w → byte_at l (length w) ≡ 34 → leading is_graphic l ≡ length w
@@ -215,7 +205,7 @@ module _ (word s : List ℕ) (at : ℕ) (graphic : graphic_word word ≡ true) (
   quoted-chars = plain-chars s at (at + 1 + length word) (sym quoted-plain) (omega arith) ∙ there
 
 module _ (rows names s : List ℕ) (count at k : ℕ) where
-  pub guess-right : k < count → own_name rows names count k ≡ true → 0 < guess_end rows names s at k → name_at (fields_from rows names count 0) s at ≡ Known k (guess_end rows names s at k)
+  pub guess-right : k < count → own_name rows names count k ≡ true → 0 < guess_end rows names s at k → name_at (fields_from rows names count 0) s at ≡ named k (guess_end rows names s at k)
   unfolding own_name guess_end
   guess-right l own h =
       let word = field_name_at rows names k in
@@ -223,5 +213,5 @@ module _ (rows names s : List ℕ) (count at k : ℕ) where
       let index : index_of word (fields_from rows names count 0) ≡ k = eqb-true (index_of word (fields_from rows names count 0)) k (both_right (graphic_word word) (eqb (index_of word (fields_from rows names count 0)) k) own) in
       let q = quoted word s at h in
       let j = at + 1 + length word in
-      let known : Known k (j + 1) ≡ cond (ltb k count) (Known k (j + 1)) (Unknown 13 at) = rw (lt-ltb k count l) in
-      sym (name-plain s at rows names count k (j + 1) (Known k (j + 1)) known j (sym (quoted-plain word s at graphic h)) (omega arith) refl word (sym q.same) (sym index)) ∙ ap (Known k) (omega (arith, q.end))
+      let known : named k (j + 1) ≡ cond (ltb k count) (named k (j + 1)) (unnamed 13 at) = rw (lt-ltb k count l) in
+      sym (name-plain s at rows names count k (j + 1) (named k (j + 1)) known j (sym (quoted-plain word s at graphic h)) (omega arith) refl word (sym q.same) (sym index)) ∙ ap (named k) (omega (arith, q.end))

@@ -1,17 +1,17 @@
 -- Putting a name's characters down one behind the other: those put down and those left are the whole, and what is left to
 -- read ends where the whole does.
 -- Assumes nothing.
+use Rattle.std.specs.Prelude.{Ok}
 use Prim.Native.Nat.{ℕ, ◌+◌, ◌≤◌, ◌<◌}
 use mathlib.Core.Path.{◌≡◌, refl, sym, ap, ◌∙◌}
 use mathlib.Core.Bool.{Bool, true, ◌||◌}
-use mathlib.Core.List.{List, [], ◌∷◌, ◌++◌, append_assoc, append-nil}
+use mathlib.Core.List.{List, ◌∷◌, ◌++◌, append_assoc, append-nil}
 use native.Mathlib.Numerals.{add-one}
 use native.Mathlib.Omega.{arith}
 use lib.ListN.{length, take, set, length-set}
 use lib.Seq.{take-suc-set, length-take-le}
 use lib.Dec.{lit<}
 use Rattle.json_bytes.specs.Reads.{byte_at}
-use Rattle.json_bytes.specs.declared.Reading.TheVariants.{Whole}
 use Rattle.json_bytes.proofs.Laws.{inside}
 use Rattle.json_chars.specs.Step.{step_at}
 use Rattle.json_chars.specs.Chars.{chars_at}
@@ -73,7 +73,7 @@ module _ (s : List ℕ) (at : ℕ) (word : List ℕ) (n i : ℕ) (w : Spelled s 
   pub spell-inside : step_at s i ≡ Close → i < length s
   spell-inside e = rw e at (step-good s i w.left.inside)
 
-  pub spell-whole : step_at s i ≡ Close → text_read_at s at ≡ Whole (i + 1)
+  pub spell-whole : step_at s i ≡ Close → text_read_at s at ≡ Ok (i + 1)
   unfolding text_read
   spell-whole e = ap (λ (x : TextRead). x.reading) (text-close Text s at w.wrong i w.edge w.text e)
 

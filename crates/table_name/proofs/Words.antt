@@ -1,5 +1,6 @@
 -- Two lists of bytes side by side, and a word among the names of a table.
 -- Assumes nothing.
+use Rattle.std.specs.Prelude.{Ok}
 use Prim.Native.Nat.{ℕ, ◌+◌, ◌-◌, ◌*◌, ◌/◌, ◌≤◌, ◌<◌}
 use mathlib.Core.Path.{◌≡◌, refl, sym, ap, ◌∙◌}
 use mathlib.Core.Bool.{Bool, true, false, cond, ◌&&◌}
@@ -13,7 +14,6 @@ use lib.ListN.{length, get_or, take, drop, drop_of_length-le, length-drop, get_o
 use lib.Seq.{drop-cons, length-take-le}
 use lib.Dec.{ltb, leb}
 use Rattle.json_bytes.proofs.Laws.{by-test, both_left, both_right}
-use Rattle.json_bytes.specs.declared.Reading.TheVariants.{Whole}
 use Rattle.json_chars.specs.Chars.{chars_at}
 use Rattle.json_text.specs.Run.{plain_end}
 use Rattle.json_text.specs.Text.{text_read_at, text_read}
@@ -27,9 +27,7 @@ use Rattle.parts.specs.Part.{part_of}
 use Rattle.parts.proofs.Laws.{part-is}
 use Rattle.table_rows.specs.Rows.{cell_at, field_name_at, fields_from}
 use Rattle.table_rows.proofs.Laws.{fields-length}
-use Rattle.table_name.specs.Name.{index_of, named_at, name_at}
-use Rattle.table_name.specs.declared.NameRead.{NameRead}
-use Rattle.table_name.specs.declared.NameRead.TheVariants.{Known, Unknown}
+use Rattle.table_name.specs.Name.{index_of, NameRead, named, unnamed, named_at, name_at}
 
 -- ---- two lists of bytes
 module _ (a b : List ℕ) where
@@ -52,6 +50,9 @@ module _ (a b : List ℕ) where
     pub same_ends : length a ≤ i → length b ≤ i → same_list (drop i a) (drop i b) ≡ true
     unfolding same_list
     same_ends l m = rw (drop_of_length-le a l, drop_of_length-le b m)
+
+-- what comparing them byte by byte needs
+pub ruleset comparing = (same-longer, same_more, same_differs, same_ends)
 
 -- ---- with case kept, two strings are the same where their characters are
 kept-all : (xs : List ℕ) → map (cased_as Kept) xs ≡ xs
@@ -105,6 +106,8 @@ module _ (word rows names : List ℕ) (k : ℕ) where
   unfolding field_name_at cell_at
   row-compared = word-compared word names (get_or rows (k * 5 + 3) 0) (get_or rows (k * 5 + 4) 0)
 
+pub ruleset row_named = (row-none, row_apart, row-compared, place-fits)
+
 -- ---- a name that is written in plain bytes, and one that is read
 -- a plain name has a byte
 pub plain_word : (s : List ℕ) (at j : ℕ) → j ≡ plain_end s at → 0 < j → (word : List ℕ) → word ≡ part_of s (at + 1) j → 0 < length word
@@ -112,21 +115,21 @@ plain_word s at j is h word is_word =
     let around = plain-inside s at j is h in
     rw (is_word, part-is s (at + 1) j (omega (arith, around.0)) (omega (arith, around.1)), taken-long s (at + 1) j (omega (arith, around.0)) (omega (arith, around.1))) (omega (arith, around.0))
 
-module _ (s : List ℕ) (at : ℕ) (rows names : List ℕ) (count index end : ℕ) (n : NameRead) (is_known : n ≡ cond (ltb index count) (Known index end) (Unknown 13 at)) where
-  named : text_read_at s at ≡ Whole end → index ≡ index_of (chars_at s at) (fields_from rows names count 0) → n ≡ name_at (fields_from rows names count 0) s at
+module _ (s : List ℕ) (at : ℕ) (rows names : List ℕ) (count index end : ℕ) (n : NameRead) (is_known : n ≡ cond (ltb index count) (named index end) (unnamed 13 at)) where
+  is_named : text_read_at s at ≡ Ok end → index ≡ index_of (chars_at s at) (fields_from rows names count 0) → n ≡ name_at (fields_from rows names count 0) s at
   unfolding name_at named_at
-  named whole is_index = rw (whole, name_at, ← is_index, fields-length rows names count 0) is_known
+  is_named whole is_index = rw (whole, name_at, ← is_index, fields-length rows names count 0) is_known
 
-  pub name-decoded : text_read_at s at ≡ Whole end → (word : List ℕ) → word ≡ chars_at s at → index ≡ index_of word (fields_from rows names count 0) → n ≡ name_at (fields_from rows names count 0) s at
-  name-decoded whole word chars is_index = named whole (is_index ∙ ap (λ cs. index_of cs (fields_from rows names count 0)) chars)
+  pub name-decoded : text_read_at s at ≡ Ok end → (word : List ℕ) → word ≡ chars_at s at → index ≡ index_of word (fields_from rows names count 0) → n ≡ name_at (fields_from rows names count 0) s at
+  name-decoded whole word chars is_index = is_named whole (is_index ∙ ap (λ cs. index_of cs (fields_from rows names count 0)) chars)
 
-  pub name-read : (t : TextRead) → t ≡ text_read Text s at → t.reading ≡ Whole end → index ≡ index_of (chars_at s at) (fields_from rows names count 0) → n ≡ name_at (fields_from rows names count 0) s at
+  pub name_read : (text_read Text s at).reading ≡ Ok end → index ≡ index_of (chars_at s at) (fields_from rows names count 0) → n ≡ name_at (fields_from rows names count 0) s at
   unfolding text_read
-  name-read t is_text whole is_index = named (sym (ap (λ (x : TextRead). x.reading) is_text) ∙ whole) is_index
+  name_read whole is_index = is_named whole is_index
 
   pub name-plain : (j : ℕ) → j ≡ plain_end s at → 0 < j → end ≡ j + 1 → (word : List ℕ) → word ≡ part_of s (at + 1) j → index ≡ index_of word (fields_from rows names count 0) → n ≡ name_at (fields_from rows names count 0) s at
   unfolding text_read
   name-plain j is h is_end word is_word is_index =
       let around = plain-inside s at j is h in
       let chars : word ≡ chars_at s at = is_word ∙ part-is s (at + 1) j (omega (arith, around.0)) (omega (arith, around.1)) ∙ sym (plain-chars s at j is h) in
-      name-decoded (ap (λ (x : TextRead). x.reading) (plain-text s at j is h) ∙ ap Whole (sym is_end)) word chars is_index
+      name-decoded (ap (λ (x : TextRead). x.reading) (plain-text s at j is h) ∙ ap Ok (sym is_end)) word chars is_index

@@ -25,40 +25,23 @@ struct Answer {
 
 // What stands before the n bytes of a case.
 #[derive(Clone, Copy)]
-enum Header {
-    Asks {
-        file: usize,
-        present: bool,
-        n: usize,
-    },
-    Nothing,
-}
-
-#[derive(Clone, Copy)]
-enum Next {
-    Answered(Answer),
-    End,
+struct Header {
+    file: usize,
+    present: bool,
+    n: usize,
 }
 
 // FileType.txt is a fixed text, files 1 to 3 hold an object each, and the others records.
 fn form_of(file: usize) -> u32 {
-    if file == 0 {
-        return FIXED;
+    match file {
+        0 => FIXED,
+        1..=3 => SINGLE,
+        _ => RECORDS,
     }
-    if file <= 3 {
-        return SINGLE;
-    }
-    RECORDS
 }
 
 fn is_required(file: usize) -> bool {
-    if file == 0 {
-        return true;
-    }
-    if file == 1 {
-        return true;
-    }
-    file == 3
+    matches!(file, 0 | 1 | 3)
 }
 
 fn answer_of(
@@ -93,49 +76,41 @@ fn answer_of(
     }
 }
 
-fn read_header(rt: &impl Host) -> Header {
+// What stands before the next case; none where the input ends.
+fn read_header(rt: &impl Host) -> Option<Header> {
     let mut bytes = [0u8; 12];
     if !fill(&mut rt.input(), &mut bytes) {
-        return Header::Nothing;
+        return None;
     }
-    Header::Asks {
+    Some(Header {
         file: word_at(&bytes, 0) as usize,
         present: word_at(&bytes, 4) == 1,
         n: word_at(&bytes, 8) as usize,
-    }
+    })
 }
 
-// The answer to the next case, whose bytes go to the front of a buffer.
+// The answer to the next case, whose bytes go to the front of a buffer; none where the input ends, or at a case that
+// is too long or of no file.
 fn next_answer(
     rt: &impl Host,
     rows: &[u32],
     names: &[u8],
     buf: &mut [u8],
     cells: &mut [u32],
-) -> Next {
-    let Header::Asks { file, present, n } = read_header(rt) else {
-        return Next::End;
-    };
-    if 19 < file {
-        return Next::End;
+) -> Option<Answer> {
+    let Header { file, present, n } = read_header(rt)?;
+    if 19 < file || buf.len() < n || !fill(&mut rt.input(), &mut buf[..n]) {
+        return None;
     }
-    if buf.len() < n {
-        return Next::End;
-    }
-    if !fill(&mut rt.input(), &mut buf[..n]) {
-        return Next::End;
-    }
-    Next::Answered(answer_of(file, present, &buf[..n], rows, names, cells))
+    Some(answer_of(file, present, &buf[..n], rows, names, cells))
 }
 
 // Writes the first n cells into four bytes each.
 fn put_cells(out: &mut [u8], at: usize, cells: &[u32], n: usize)
     requires { (n ≤ length cells.now) × (at + 4 * n ≤ length out.old) }
 {
-    let mut k = 0;
-    while k < n {
+    for k in 0..n {
         put_word(out, at + 4 * k, cells[k]);
-        k += 1;
     }
 }
 
@@ -144,17 +119,11 @@ fn put_cells(out: &mut [u8], at: usize, cells: &[u32], n: usize)
 fn cell_count(records: usize, count: usize, most: usize) -> usize
     ensures { (result ≤ most) × (result ≤ 188416) }
 {
-    if 4096 < records {
-        return 0;
-    }
-    if 23 < count {
+    if 4096 < records || 23 < count {
         return 0;
     }
     let n = records * (2 * count);
-    if most < n {
-        return 0;
-    }
-    n
+    if most < n { 0 } else { n }
 }
 
 // Writes an answer, of at most 753,704 bytes, and gives the place behind it.
@@ -184,10 +153,10 @@ fn answer_some(
     let mut used = 0;
     while used + 753704 <= out.len() {
         match next_answer(rt, rows, names, buf, cells) {
-            Next::Answered(answer) => {
+            Some(answer) => {
                 used = put_answer(out, used, answer, cells);
             }
-            Next::End => {
+            None => {
                 write_out(rt, &out[..used]);
                 return false;
             }

@@ -1,5 +1,7 @@
 -- What a record's reading gives does not hang on what its cells held before, nor on what stands behind them: lists that are alike up to the
 -- record's cells are read alike, and are alike up to their end. Assumes nothing.
+use Rattle.json_bytes.specs.Reads.{Reading, fault_at}
+use Rattle.std.specs.Prelude.{Ok, Err}
 use Prim.Native.Nat.{ℕ, zero, suc, ◌+◌, ◌*◌, ◌≤◌, ◌<◌}
 use mathlib.Core.Path.{◌≡◌, refl, sym, ap, ◌∙◌}
 use mathlib.Core.Bool.{Bool, true, false, cond, ◌||◌}
@@ -9,14 +11,10 @@ use borrow.Author.Tests.{eqb-true, eqb-false}
 use lib.ListN.{length, get_or, set, length-set}
 use lib.Seq.{get_or-set_same, get_or-set_other}
 use lib.Dec.{ltb, eqb}
-use Rattle.json_bytes.specs.declared.Reading.{Reading}
-use Rattle.json_bytes.specs.declared.Reading.TheVariants.{Whole, Fault}
 use Rattle.json_bytes.proofs.Laws.{together}
 use Rattle.json_bytes.proofs.Bounds.{Within}
 use Rattle.table_rows.specs.Rows.{Field}
-use Rattle.table_name.specs.Name.{name_at, colon_at, first_in, next_after}
-use Rattle.table_name.specs.declared.NameRead.{NameRead}
-use Rattle.table_name.specs.declared.NameRead.TheVariants.{Known, Unknown}
+use Rattle.table_name.specs.Name.{NameRead, name_at, colon_at, first_in, next_after}
 use Rattle.table_name.specs.declared.Next.{Next}
 use Rattle.table_name.specs.declared.Next.TheVariants.{More, Ends, Neither}
 use Rattle.table_value.specs.Value.{value_at}
@@ -103,12 +101,12 @@ module _ (fields : List Field) (s : List ℕ) (base : ℕ) where
     unfolding stored_value
     alike-value k start l (Held end) = record { same_outcome = refl; same-cells = alike-stored k start end l }
     alike-value k start l (Null end) = record { same_outcome = refl; same-cells = alike-stored k start 0 l }
-    alike-value k start l (Bad kind place) = alike-with (Fault kind place)
+    alike-value k start l (Bad kind place) = alike-with (fault_at kind place)
 
     alike-colon : (k : ℕ) → k < length fields → (r : Reading) → ReadAlike (base + 2 * length fields) (after_colon fields s a base k r) (after_colon fields s b base k r)
     unfolding after_colon
-    alike-colon k l (Whole start) = alike-value k start l (value_at s start (type_of fields k))
-    alike-colon k l (Fault kind place) = alike-with (Fault kind place)
+    alike-colon k l (Ok start) = alike-value k start l (value_at s start (type_of fields k))
+    alike-colon k l (Err e) = alike-with (Err e)
 
     read_alike : (k : ℕ) → k < length fields → is_read a base k ≡ is_read b base k
     unfolding is_read start_cell
@@ -116,9 +114,9 @@ module _ (fields : List Field) (s : List ℕ) (base : ℕ) where
 
     alike-name : (at : ℕ) (n : NameRead) → NameIn fields s at n → ReadAlike (base + 2 * length fields) (after_name fields s at a base n) (after_name fields s at b base n)
     unfolding after_name
-    alike-name at (Known k end) l =
-        rw (read_alike k l.0) (together (ReadAlike (base + 2 * length fields)) (is_read b base k) _ _ _ _ (alike-with (Fault 14 at)) (alike-colon k l.0 (colon_at s end)))
-    alike-name at (Unknown kind place) l = alike-with (Fault kind place)
+    alike-name at (Ok n) l =
+        rw (read_alike n.index l.0) (together (ReadAlike (base + 2 * length fields)) (is_read b base n.index) _ _ _ _ (alike-with (fault_at 14 at)) (alike-colon n.index l.0 (colon_at s n.end)))
+    alike-name at (Err e) l = alike-with (Err e)
 
     alike-pair : (at : ℕ) → at ≤ length s → ReadAlike (base + 2 * length fields) (pair_at fields s at a base) (pair_at fields s at b base)
     unfolding pair_at
@@ -134,37 +132,37 @@ module _ (fields : List Field) (s : List ℕ) (base : ℕ) where
     alike-closed : (at : ℕ) → ReadAlike (base + 2 * length fields) (cells_filled a (record_closed_at fields a base at)) (cells_filled b (record_closed_at fields b base at))
     unfolding record_closed_at
     alike-closed at =
-        record { same_outcome = ap (λ t. cond t (Fault 19 at) (Whole (at + 1))) (missing-alike fields 0 (omega arith)); same-cells = h }
+        record { same_outcome = ap (λ t. cond t (fault_at 19 at) (Ok (at + 1))) (missing-alike fields 0 (omega arith)); same-cells = h }
 
   -- what follows a pair, by what stands behind it
-  alike_next : (n : ℕ) {a b : List ℕ} (end : ℕ) → Alike (base + 2 * length fields) a b → base + 2 * length fields ≤ length a → ((next : ℕ) → next ≤ length s → ReadAlike (base + 2 * length fields) (pairs_from n fields s next a base) (pairs_from n fields s next b base)) → (x : Next) → NextIn s end x → ReadAlike (base + 2 * length fields) (elim x [ More next ↦ pairs_from n fields s next a base | Ends last ↦ cells_filled a (record_closed_at fields a base last) | Neither place ↦ cells_filled a (Fault 11 place) ]) (elim x [ More next ↦ pairs_from n fields s next b base | Ends last ↦ cells_filled b (record_closed_at fields b base last) | Neither place ↦ cells_filled b (Fault 11 place) ])
+  alike_next : (n : ℕ) {a b : List ℕ} (end : ℕ) → Alike (base + 2 * length fields) a b → base + 2 * length fields ≤ length a → ((next : ℕ) → next ≤ length s → ReadAlike (base + 2 * length fields) (pairs_from n fields s next a base) (pairs_from n fields s next b base)) → (x : Next) → NextIn s end x → ReadAlike (base + 2 * length fields) (elim x [ More next ↦ pairs_from n fields s next a base | Ends last ↦ cells_filled a (record_closed_at fields a base last) | Neither place ↦ cells_filled a (fault_at 11 place) ]) (elim x [ More next ↦ pairs_from n fields s next b base | Ends last ↦ cells_filled b (record_closed_at fields b base last) | Neither place ↦ cells_filled b (fault_at 11 place) ])
   alike_next n end h room rest (More next) l = rest next l.1
   alike_next n end h room rest (Ends last) l = alike-closed h room last
-  alike_next n end h room rest (Neither place) l = alike-with h room (Fault 11 place)
+  alike_next n end h room rest (Neither place) l = alike-with h room (fault_at 11 place)
 
   alike-after : (n : ℕ) {a b : List ℕ} (at : ℕ) → Alike (base + 2 * length fields) a b → base + 2 * length fields ≤ length a → ((next : ℕ) → next ≤ length s → ReadAlike (base + 2 * length fields) (pairs_from n fields s next a base) (pairs_from n fields s next b base)) → (r q : Reading) → r ≡ q → Within s at r → ReadAlike (base + 2 * length fields) (elim r [
-    | Whole end ↦
+    | Ok end ↦
         elim (next_after s end 125) [
           | More next ↦ pairs_from n fields s next a base
           | Ends last ↦ cells_filled a (record_closed_at fields a base last)
-          | Neither place ↦ cells_filled a (Fault 11 place)
+          | Neither place ↦ cells_filled a (fault_at 11 place)
         ]
-    | Fault kind place ↦ cells_filled a (Fault kind place)
+    | Err e ↦ cells_filled a (Err e)
   ]) (elim q [
-    | Whole end ↦
+    | Ok end ↦
         elim (next_after s end 125) [
           | More next ↦ pairs_from n fields s next b base
           | Ends last ↦ cells_filled b (record_closed_at fields b base last)
-          | Neither place ↦ cells_filled b (Fault 11 place)
+          | Neither place ↦ cells_filled b (fault_at 11 place)
         ]
-    | Fault kind place ↦ cells_filled b (Fault kind place)
+    | Err e ↦ cells_filled b (Err e)
   ])
-  alike-after n at h room rest (Whole end) q e l = rw (← e) (alike_next n end h room rest (next_after s end 125) (next-in s end l.1 125 (omega arith)))
-  alike-after n at h room rest (Fault kind place) q e l = rw (← e) (alike-with h room (Fault kind place))
+  alike-after n at h room rest (Ok end) q e l = rw (← e) (alike_next n end h room rest (next_after s end 125) (next-in s end l.1 125 (omega arith)))
+  alike-after n at h room rest (Err x) q e l = rw (← e) (alike-with h room (Err x))
 
   alike-pairs : (n : ℕ) (a b : List ℕ) → Alike (base + 2 * length fields) a b → base + 2 * length fields ≤ length a → (at : ℕ) → at ≤ length s → ReadAlike (base + 2 * length fields) (pairs_from n fields s at a base) (pairs_from n fields s at b base)
   unfolding pairs_from
-  alike-pairs zero a b h room at l = alike-with h room (Fault 11 at)
+  alike-pairs zero a b h room at l = alike-with h room (fault_at 11 at)
   alike-pairs (suc n) a b h room at l =
       let p = pair_at fields s at a base in
       let q = pair_at fields s at b base in
@@ -178,7 +176,7 @@ module _ (fields : List Field) (s : List ℕ) (base : ℕ) where
   unfolding members_of
   alike-members a b h room at l (More next) e = alike-pairs (length s) a b h room next e.1
   alike-members a b h room at l (Ends last) e = alike-closed h room last
-  alike-members a b h room at l (Neither place) e = alike-with h room (Fault 11 place)
+  alike-members a b h room at l (Neither place) e = alike-with h room (fault_at 11 place)
 
   pub room-alike : (a b : List ℕ) → length a ≡ length b → record_has_room s a base (length fields) ≡ record_has_room s b base (length fields)
   unfolding record_has_room
@@ -195,6 +193,6 @@ module _ (fields : List Field) (s : List ℕ) (base : ℕ) where
       (omega (arith, (kept-cleared base (2 * length fields) a (2 * length fields) (omega arith)).length-same)) at l (first_in s at 125) (first-in s at 125 (omega arith)))
 
   -- one that has no room is not read at all
-  pub record-unread : (a : List ℕ) → record_has_room s a base (length fields) ≡ false → (at : ℕ) → record_at fields s at a base ≡ cells_filled a (Fault 99 at)
+  pub record-unread : (a : List ℕ) → record_has_room s a base (length fields) ≡ false → (at : ℕ) → record_at fields s at a base ≡ cells_filled a (fault_at 99 at)
   unfolding record_at
   record-unread a none at = rw none

@@ -1,6 +1,7 @@
 -- Where the parts of a record stand: a name, the value behind its colon and what follows lie one behind the other and
 -- within the file, so does a whole record, and a fault's place lies within the file or at its length.
 -- Assumes nothing.
+use Rattle.std.specs.Prelude.{Ok, Err}
 use Prim.Native.Nat.{ℕ, zero, suc, ◌+◌, ◌*◌, ◌≤◌, ◌<◌}
 use mathlib.Core.Path.{◌≡◌, refl, ◌∙◌}
 use mathlib.Core.Bool.{cond}
@@ -10,18 +11,14 @@ use borrow.Author.Tests.{eqb-true, ltb-true}
 use lib.ListN.{length, get_or, set, length-set}
 use lib.Seq.{get_or-set_other}
 use lib.Dec.{ltb, eqb}
-use Rattle.json_bytes.specs.Reads.{byte_at, spaces_end}
-use Rattle.json_bytes.specs.declared.Reading.{Reading}
-use Rattle.json_bytes.specs.declared.Reading.TheVariants.{Whole, Fault}
+use Rattle.json_bytes.specs.Reads.{byte_at, spaces_end, Reading, fault_at}
 use Rattle.json_bytes.proofs.Laws.{inside, by-test}
 use Rattle.json_bytes.proofs.Bounds.{Within, spaces-within}
 use Rattle.json_chars.specs.Chars.{chars_at}
 use Rattle.json_text.specs.Text.{text_read_at}
 use Rattle.json_text.proofs.Bounds.{text-within, earlier}
 use Rattle.table_rows.specs.Rows.{Field}
-use Rattle.table_name.specs.Name.{index_of, named_at, name_at, colon_at, first_in, next_after}
-use Rattle.table_name.specs.declared.NameRead.{NameRead}
-use Rattle.table_name.specs.declared.NameRead.TheVariants.{Known, Unknown}
+use Rattle.table_name.specs.Name.{NameRead, index_of, named_at, name_at, colon_at, first_in, next_after}
 use Rattle.table_name.specs.declared.Next.{Next}
 use Rattle.table_name.specs.declared.Next.TheVariants.{More, Ends, Neither}
 use Rattle.table_value.specs.Value.{value_at}
@@ -49,16 +46,16 @@ use Rattle.table_record.specs.Record.{
 
 -- ---- A name
 abbrev pub NameIn : List Field → List ℕ → ℕ → NameRead → Type 0
-NameIn fields s at (Known k end) = (k < length fields) × ((at < end) × (end ≤ length s))
-NameIn fields s at (Unknown kind place) = place ≤ length s
+NameIn fields s at (Ok n) = (n.index < length fields) × ((at < n.end) × (n.end ≤ length s))
+NameIn fields s at (Err e) = e.place ≤ length s
 
 module _ (fields : List Field) (s : List ℕ) (at : ℕ) (l : at ≤ length s) where
-  name_of : (r : Reading) → Within s at r → NameIn fields s at (elim r [ Whole end ↦ named_at fields s at end | Fault kind place ↦ Unknown kind place ])
+  name_of : (r : Reading) → Within s at r → NameIn fields s at (elim r [ Ok end ↦ named_at fields s at end | Err e ↦ Err e ])
   unfolding named_at
-  name_of (Whole end) h =
+  name_of (Ok end) h =
       by-test (NameIn fields s at) (ltb (index_of (chars_at s at) fields) (length fields)) _ _
       (λ e. (ltb-true (index_of (chars_at s at) fields) (length fields) e, h)) (λ _. l)
-  name_of (Fault kind place) h = h
+  name_of (Err e) h = h
 
   pub name_in : NameIn fields s at (name_at fields s at)
   unfolding name_at
@@ -148,7 +145,7 @@ pub record PartIn (fields : List Field) (s : List ℕ) (base : ℕ) (cells : Lis
   pub kept : Kept base (2 * length fields) cells f.cells
 
 module _ (fields : List Field) (s : List ℕ) (base : ℕ) where
-  part-fault : (cells : List ℕ) (at kind place : ℕ) → place ≤ length s → PartIn fields s base cells at (cells_filled cells (Fault kind place))
+  part-fault : (cells : List ℕ) (at kind place : ℕ) → place ≤ length s → PartIn fields s base cells at (cells_filled cells (fault_at kind place))
   part-fault cells at kind place l = record { place = l; kept = kept-all base (2 * length fields) cells }
 
   -- a part behind another is one from where that one began
@@ -170,18 +167,18 @@ module _ (fields : List Field) (s : List ℕ) (base : ℕ) where
 
     colon-part : (k end : ℕ) → k < length fields → (r : Reading) → Within s end r → PartIn fields s base cells end (after_colon fields s cells base k r)
     unfolding after_colon
-    colon-part k end m (Whole start) h =
+    colon-part k end m (Ok start) h =
         part-behind cells end start _ (omega (arith, h.0))
         (value-part k start m h.1 (value_at s start (type_of fields k)) (value_in s start h.1 (type_of fields k)))
-    colon-part k end m (Fault kind place) h = part-fault cells end kind place h
+    colon-part k end m (Err e) h = part-fault cells end e.kind e.place h
 
     name-part : (at : ℕ) → at ≤ length s → (n : NameRead) → NameIn fields s at n → PartIn fields s base cells at (after_name fields s at cells base n)
     unfolding after_name
-    name-part at l (Known k end) h =
-        by-test (PartIn fields s base cells at) (is_read cells base k) _ _ (λ _. part-fault cells at 14 at l)
-        (λ _. part-behind cells at end _ (omega (arith, h.1.0))
-        (colon-part k end h.0 (colon_at s end) (colon-in s end h.1.1)))
-    name-part at l (Unknown kind place) h = part-fault cells at kind place h
+    name-part at l (Ok n) h =
+        by-test (PartIn fields s base cells at) (is_read cells base n.index) _ _ (λ _. part-fault cells at 14 at l)
+        (λ _. part-behind cells at n.end _ (omega (arith, h.1.0))
+        (colon-part n.index n.end h.0 (colon_at s n.end) (colon-in s n.end h.1.1)))
+    name-part at l (Err e) h = part-fault cells at e.kind e.place h
 
     pub pair-in : (at : ℕ) → at ≤ length s → PartIn fields s base cells at (pair_at fields s at cells base)
     unfolding pair_at
@@ -196,25 +193,25 @@ module _ (fields : List Field) (s : List ℕ) (base : ℕ) where
         }
 
   -- what follows a pair, by what stands behind it
-  next-part : (n : ℕ) (cells : List ℕ) (end : ℕ) → end ≤ length s → ((next : ℕ) → next ≤ length s → PartIn fields s base cells next (pairs_from n fields s next cells base)) → (x : Next) → NextIn s end x → PartIn fields s base cells end (elim x [ More next ↦ pairs_from n fields s next cells base | Ends last ↦ cells_filled cells (record_closed_at fields cells base last) | Neither place ↦ cells_filled cells (Fault 11 place) ])
+  next-part : (n : ℕ) (cells : List ℕ) (end : ℕ) → end ≤ length s → ((next : ℕ) → next ≤ length s → PartIn fields s base cells next (pairs_from n fields s next cells base)) → (x : Next) → NextIn s end x → PartIn fields s base cells end (elim x [ More next ↦ pairs_from n fields s next cells base | Ends last ↦ cells_filled cells (record_closed_at fields cells base last) | Neither place ↦ cells_filled cells (fault_at 11 place) ])
   next-part n cells end l rest (More next) h =
       part-behind cells end next _ (omega (arith, h.0)) (rest next h.1)
   next-part n cells end l rest (Ends last) h = close-part cells end last h.0 h.1
   next-part n cells end l rest (Neither place) h = part-fault cells end 11 place (h l)
 
   pair-part : (n : ℕ) (cells : List ℕ) (at : ℕ) → ((next : ℕ) → next ≤ length s → PartIn fields s base cells next (pairs_from n fields s next cells base)) → (r : Reading) → Within s at r → PartIn fields s base cells at (elim r [
-    | Whole end ↦
+    | Ok end ↦
         elim (next_after s end 125) [
           | More next ↦ pairs_from n fields s next cells base
           | Ends last ↦ cells_filled cells (record_closed_at fields cells base last)
-          | Neither place ↦ cells_filled cells (Fault 11 place)
+          | Neither place ↦ cells_filled cells (fault_at 11 place)
         ]
-    | Fault kind place ↦ cells_filled cells (Fault kind place)
+    | Err e ↦ cells_filled cells (Err e)
   ])
-  pair-part n cells at rest (Whole end) h =
+  pair-part n cells at rest (Ok end) h =
       part-behind cells at end _ (omega (arith, h.0))
       (next-part n cells end h.1 rest (next_after s end 125) (next-in s end h.1 125 (omega arith)))
-  pair-part n cells at rest (Fault kind place) h = part-fault cells at kind place h
+  pair-part n cells at rest (Err e) h = part-fault cells at e.kind e.place h
 
   pub pairs-in : (n : ℕ) (cells : List ℕ) (at : ℕ) → at ≤ length s → PartIn fields s base cells at (pairs_from n fields s at cells base)
   unfolding pairs_from

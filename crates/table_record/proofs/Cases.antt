@@ -1,11 +1,12 @@
 -- Worked cases of document 01 for a record of Resources: P11, the errors that it names, and both sides of each kind.
 -- Assumes nothing.
+use Rattle.json_bytes.specs.Reads.{fault_at}
+use Rattle.std.specs.Prelude.{Ok}
 use Prim.Native.Nat.{ℕ}
 use Prim.Native.String.{String}
 use mathlib.Core.Path.{◌≡◌, refl}
 use mathlib.Core.List.{List, [], ◌∷◌, map}
 use Rattle.table_record.proofs.Opens.{open-records}
-use Rattle.json_bytes.specs.declared.Reading.TheVariants.{Whole, Fault}
 use Rattle.json_bytes.specs.Ascii.{codes}
 use Rattle.table_fields.specs.Fields.{fields_of}
 use Rattle.table_record.specs.Record.{Filled, cells_filled, record_at}
@@ -33,18 +34,18 @@ files =
     []
 
 pub faults : map (λ file. (first_record file).outcome) files
-    ≡ (Fault 19 27 ∷ Fault 19 2 ∷ Fault 14 12 ∷ Fault 14 12 ∷ Fault 13 2 ∷ Fault 15 24 ∷ Fault 11 12 ∷ Fault 11 12 ∷ Fault 11 7 ∷ Fault 11 11 ∷ [])
+    ≡ (fault_at 19 27 ∷ fault_at 19 2 ∷ fault_at 14 12 ∷ fault_at 14 12 ∷ fault_at 13 2 ∷ fault_at 15 24 ∷ fault_at 11 12 ∷ fault_at 11 12 ∷ fault_at 11 7 ∷ fault_at 11 11 ∷ [])
 unfolding open-records
 faults = refl
 
 -- the cells then: where each value starts and where it ends, 0 where a null or an empty string ends
 pub whole : first_record "[{\"Comments\":\"\",\"ID\": \"R1\",\"ElementOfCostID\":\"LABOR\",\"Name\":\"Fitter\"}]"
-    ≡ cells_filled (5 ∷ 22 ∷ 26 ∷ 60 ∷ 68 ∷ 45 ∷ 52 ∷ 13 ∷ 0 ∷ 7 ∷ []) (Whole 69)
+    ≡ cells_filled (5 ∷ 22 ∷ 26 ∷ 60 ∷ 68 ∷ 45 ∷ 52 ∷ 13 ∷ 0 ∷ 7 ∷ []) (Ok 69)
 unfolding open-records
 whole = refl
 
 -- what was read up to a fault stays, and the cells of the fields that are absent are cleared
 pub stays : first_record "[{\"ID\":\"R1\",\"Name\":null,\"Comments\":[]}]"
-    ≡ cells_filled (5 ∷ 7 ∷ 11 ∷ 19 ∷ 0 ∷ 0 ∷ 0 ∷ 0 ∷ 0 ∷ 7 ∷ []) (Fault 15 35)
+    ≡ cells_filled (5 ∷ 7 ∷ 11 ∷ 19 ∷ 0 ∷ 0 ∷ 0 ∷ 0 ∷ 0 ∷ 7 ∷ []) (fault_at 15 35)
 unfolding open-records
 stays = refl

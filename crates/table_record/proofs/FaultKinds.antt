@@ -1,12 +1,12 @@
 -- Which kinds a record can give: those of its names and values, 14, 19 and 11; and 99 exactly where there is no room for it.
 -- Assumes nothing.
+use Rattle.std.specs.Prelude.{Ok, Err}
 use Prim.Native.Nat.{ℕ, zero, suc, ◌*◌}
 use mathlib.Core.Path.{◌≡◌, refl, ap}
 use mathlib.Core.Bool.{Bool, true, false, false≢true}
 use mathlib.Core.List.{List, [], ◌∷◌, ◌++◌, map, flat_map}
 use lib.ListN.{length, replicate}
-use Rattle.json_bytes.specs.Reads.{within}
-use Rattle.json_bytes.specs.declared.Reading.TheVariants.{Whole, Fault}
+use Rattle.json_bytes.specs.Reads.{within, fault_at}
 use Rattle.json_bytes.proofs.Laws.{either}
 use Rattle.json_bytes.proofs.FaultKinds.{wider, in_right, below, in_order, Faults, of-reading, kind_of}
 use Rattle.json_bytes.specs.Ascii.{codes}
@@ -17,9 +17,7 @@ use Rattle.table_value.specs.Value.{text_type}
 use Rattle.table_value.specs.declared.ValueRead.{ValueRead}
 use Rattle.table_value.specs.declared.ValueRead.TheVariants.{Held, Null, Bad}
 use Rattle.table_value.proofs.FaultKinds.{value_kinds, ValueFaults, value-kinds, typed_kinds, any-type}
-use Rattle.table_name.specs.Name.{name_at, colon_at, first_in, next_after}
-use Rattle.table_name.specs.declared.NameRead.{NameRead}
-use Rattle.table_name.specs.declared.NameRead.TheVariants.{Known, Unknown}
+use Rattle.table_name.specs.Name.{NameRead, name_at, colon_at, first_in, next_after}
 use Rattle.table_name.specs.declared.Next.{Next}
 use Rattle.table_name.specs.declared.Next.TheVariants.{More, Ends, Neither}
 use Rattle.table_name.proofs.FaultKinds.{name_kinds, NameFaults, name-kinds, colon_kinds, colon-kinds}
@@ -69,8 +67,9 @@ module _ (fields : List Field) (s : List ℕ) (base : ℕ) where
 
   behind-name : (at : ℕ) (cells : List ℕ) (n : NameRead) → NameFaults name_kinds n → RecordFaults (after_name fields s at cells base n)
   unfolding after_name
-  behind-name at cells (Known k end) h = either RecordFaults (is_read cells base k) _ _ refl (behind-colon cells k end)
-  behind-name at cells (Unknown kind place) h = wider name_kinds record_kinds refl kind h
+  behind-name at cells (Ok n) h =
+      either RecordFaults (is_read cells base n.index) _ _ refl (behind-colon cells n.index n.end)
+  behind-name at cells (Err e) h = wider name_kinds record_kinds refl e.kind h
 
   pair-kinds : (at : ℕ) (cells : List ℕ) → RecordFaults (pair_at fields s at cells base)
   unfolding pair_at
@@ -80,7 +79,7 @@ module _ (fields : List Field) (s : List ℕ) (base : ℕ) where
   unfolding record_closed_at
   closed-kinds cells at = either (Faults record_kinds) (is_missing fields cells base 0) _ _ refl tt
 
-  behind-pair : (n : ℕ) (cells : List ℕ) → ((next : ℕ) → RecordFaults (pairs_from n fields s next cells base)) → (x : Next) → RecordFaults (elim x [ More next ↦ pairs_from n fields s next cells base | Ends last ↦ cells_filled cells (record_closed_at fields cells base last) | Neither place ↦ cells_filled cells (Fault 11 place) ])
+  behind-pair : (n : ℕ) (cells : List ℕ) → ((next : ℕ) → RecordFaults (pairs_from n fields s next cells base)) → (x : Next) → RecordFaults (elim x [ More next ↦ pairs_from n fields s next cells base | Ends last ↦ cells_filled cells (record_closed_at fields cells base last) | Neither place ↦ cells_filled cells (fault_at 11 place) ])
   behind-pair n cells rest (More next) = rest next
   behind-pair n cells rest (Ends last) = closed-kinds cells last
   behind-pair n cells rest (Neither place) = refl
@@ -91,13 +90,13 @@ module _ (fields : List Field) (s : List ℕ) (base : ℕ) where
   pairs-kinds (suc n) at cells =
       let pair = pair_at fields s at cells base in
       of-reading (λ r. RecordFaults (elim r [
-        | Whole end ↦
+        | Ok end ↦
             elim (next_after s end 125) [
               | More next ↦ pairs_from n fields s next pair.cells base
               | Ends last ↦ cells_filled pair.cells (record_closed_at fields pair.cells base last)
-              | Neither place ↦ cells_filled pair.cells (Fault 11 place)
+              | Neither place ↦ cells_filled pair.cells (fault_at 11 place)
             ]
-        | Fault kind place ↦ cells_filled pair.cells (Fault kind place)
+        | Err e ↦ cells_filled pair.cells (Err e)
       ])) record_kinds (λ end. behind-pair n pair.cells (λ next. pairs-kinds n next pair.cells) (next_after s end 125))
       (λ kind place h. h) pair.outcome (pair-kinds at cells)
 
@@ -112,10 +111,10 @@ module _ (fields : List Field) (s : List ℕ) (base : ℕ) where
       rw (record-room fields s at cells base e) (members-kinds (cleared cells base (2 * length fields)) (first_in s at 125))
 
   -- 99 says that there is no room, and nothing else does
-  pub no-room-99 : (at : ℕ) (cells : List ℕ) → record_has_room s cells base (length fields) ≡ false → (record_at fields s at cells base).outcome ≡ Fault 99 at
+  pub no-room-99 : (at : ℕ) (cells : List ℕ) → record_has_room s cells base (length fields) ≡ false → (record_at fields s at cells base).outcome ≡ fault_at 99 at
   no-room-99 at cells e = ap (λ (f : Filled). f.outcome) (record-full fields s at cells base e)
 
-  pub record-99 : (at place : ℕ) (cells : List ℕ) → (record_at fields s at cells base).outcome ≡ Fault 99 place → record_has_room s cells base (length fields) ≡ false
+  pub record-99 : (at place : ℕ) (cells : List ℕ) → (record_at fields s at cells base).outcome ≡ fault_at 99 place → record_has_room s cells base (length fields) ≡ false
   unfolding below flat_map within text_type
   record-99 at place cells e = go (record_has_room s cells base (length fields)) refl
     where

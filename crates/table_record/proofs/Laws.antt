@@ -1,5 +1,8 @@
 -- The cells after a store, one turn of each loop of a record's reading, and each way through the code as an equation.
 -- Assumes nothing.
+use Rattle.json_bytes.specs.Reads.{Reading, fault_at}
+use Rattle.std.specs.Prelude.{Ok, Err}
+use Rattle.json_bytes.specs.declared.Fault.{Fault}
 use Prim.Native.Nat.{ℕ, zero, suc, ◌+◌, ◌*◌, ◌^◌, ◌≤◌, ◌<◌}
 use mathlib.Core.Path.{◌≡◌, refl, sym, ap, ◌∙◌}
 use mathlib.Core.Bool.{Bool, true, false}
@@ -8,51 +11,34 @@ use native.Mathlib.Nat.{zero-add}
 use native.Mathlib.Numerals.{add-one}
 use native.Mathlib.Omega.{arith}
 use borrow.Author.Tests.{lt-ltb, le-ltb, le-leb, lt-leb, leb-true, ltb-true}
-use lib.ListN.{length, set, get_or-map}
+use lib.ListN.{length, set, get_or, get_or-map}
 use lib.Dec.{ltb, leb}
-use Rattle.json_bytes.specs.declared.Reading.{Reading}
-use Rattle.json_bytes.specs.declared.Reading.TheVariants.{Whole, Fault}
 use Rattle.json_bytes.proofs.Laws.{both_left, both_right}
 use Rattle.json_bytes.proofs.Bounds.{Within}
 use Rattle.table_rows.specs.Rows.{Field, type_at, field_name_at, field_at, fields_from}
 use Rattle.table_rows.proofs.Laws.{fields-length, fields_at}
-use Rattle.table_name.specs.Name.{name_at, colon_at, first_in, next_after}
-use Rattle.table_name.specs.declared.NameRead.{NameRead}
-use Rattle.table_name.specs.declared.NameRead.TheVariants.{Known, Unknown}
+use Rattle.table_name.specs.Name.{named, name_at, colon_at, first_in, next_after}
+use Rattle.table_name.specs.declared.Named.{Named}
 use Rattle.table_name.specs.declared.Next.{Next}
 use Rattle.table_name.specs.declared.Next.TheVariants.{More, Ends, Neither}
 use Rattle.table_name.specs.Guess.{names_apart, guess_end}
 use Rattle.table_name.proofs.Guess.{own-some, apart-own, guess-right}
 use Rattle.table_value.specs.Value.{value_at}
-use Rattle.table_value.specs.declared.ValueRead.{ValueRead}
-use Rattle.table_value.specs.declared.ValueRead.TheVariants.{Held, Null, Bad}
 use Rattle.table_value.proofs.Bounds.{ValueIn, value_in}
 use Rattle.table_record.proofs.Bounds.{NameIn, NextIn, name_in, colon-in, next-in, first-in, pair-in}
-use Rattle.table_record.specs.Record.{
-  Filled,
-  cells_filled,
-  start_cell,
-  is_read,
-  stored,
-  cleared,
-  type_of,
-  stored_value,
-  after_colon,
-  after_name,
-  pair_at,
-  is_missing,
-  record_closed_at,
-  pairs_from,
-  members_of,
-  record_has_room,
-  record_at,
-}
+use Rattle.table_record.specs.Record.{Filled, cells_filled, start_cell, is_read, cleared, type_of, stored_value, after_colon, after_name, pair_at, is_missing, record_closed_at, pairs_from, members_of, record_has_room, record_at}
 
 -- ---- the cells
 module _ (cells : List ℕ) (base : ℕ) where
-  pub cleared_more : (then : List ℕ) (i : ℕ) → then ≡ cleared cells base i → set then (base + i) 0 ≡ cleared cells base (i + 1)
+  pub cleared_none : cleared cells base 0 ≡ cells
   unfolding cleared
-  cleared_more then i e = rw (add-one i, e)
+  cleared_none = refl
+
+  pub cleared_more : (i : ℕ) → cleared cells base (i + 1) ≡ set (cleared cells base i) (base + i) 0
+  unfolding cleared
+  cleared_more i = rw (add-one i, cleared)
+
+pub ruleset clearing = (cleared_none, cleared_more)
 
 -- ---- the fields
 module _ (rows names : List ℕ) (count k : ℕ) where
@@ -92,68 +78,74 @@ module _ (s cells : List ℕ) (base count : ℕ) where
         (leb-true count 64 (both_left (leb count 64) _ h), leb-true (base + 2 * count) (length cells) (both_right (leb count 64) _ h)),
       )
 
+pub ruleset rooms = (room-is, room-long, room-many, room-short)
+
 -- ---- a value
-module _ (s : List ℕ) (start ty : ℕ) (v : ValueRead) (is_value : v ≡ value_at s start ty) where
-  pub value-told : start ≤ length s → ValueIn s start v
-  value-told l = rw is_value (value_in s start l ty)
-
-  module _ (cells : List ℕ) (base k : ℕ) where
-    pub value-held : (end : ℕ) (then : List ℕ) → v ≡ Held end → then ≡ stored cells base k start end → cells_filled then (Whole end) ≡ stored_value cells base k start (value_at s start ty)
-    unfolding stored_value
-    value-held end then e is_stored = rw (← is_value, e, is_stored)
-
-    pub value-null : (end : ℕ) (then : List ℕ) → v ≡ Null end → then ≡ stored cells base k start 0 → cells_filled then (Whole end) ≡ stored_value cells base k start (value_at s start ty)
-    unfolding stored_value
-    value-null end then e is_stored = rw (← is_value, e, is_stored)
-
-    pub value-bad : (kind place : ℕ) → v ≡ Bad kind place → cells_filled cells (Fault kind place) ≡ stored_value cells base k start (value_at s start ty)
-    unfolding stored_value
-    value-bad kind place e = rw (← is_value, e)
+pub value_inside : (s : List ℕ) (start ty : ℕ) → start ≤ length s → ValueIn s start (value_at s start ty)
+value_inside s start ty l = value_in s start l ty
 
 -- ---- a name and its value
-pub colon-told : (s : List ℕ) (end : ℕ) (r : Reading) → r ≡ colon_at s end → end ≤ length s → Within s end r
-colon-told s end r e l = rw e (colon-in s end l)
-
 -- where names are told apart by their bytes, each has some
-pub guess-named : (rows names : List ℕ) (count k : ℕ) → names_apart rows names count ≡ true → k < count → 0 < length (field_name_at rows names k)
-guess-named rows names count k apart l = own-some rows names k count (apart-own rows names count k apart l)
+pub guess_named : (rows names : List ℕ) (count k : ℕ) → names_apart rows names count ≡ true → k < count → 0 < length (field_name_at rows names k)
+guess_named rows names count k apart l = own-some rows names k count (apart-own rows names count k apart l)
 
 -- a guessed field whose name stands there, where the names are apart, is the one that the name is
-pub name-guessed : (rows names s : List ℕ) (count at k end : ℕ) → names_apart rows names count ≡ true → k < count → end ≡ guess_end rows names s at k → 0 < end → Known k end ≡ name_at (fields_from rows names count 0) s at
-name-guessed rows names s count at k end apart l e p =
-    rw e (sym (guess-right rows names s count at k l (apart-own rows names count k apart l) (rw e at p)))
+pub name_guessed : (rows names s : List ℕ) (count at k : ℕ) → names_apart rows names count ≡ true → k < count → 0 < guess_end rows names s at k → name_at (fields_from rows names count 0) s at ≡ named k (guess_end rows names s at k)
+name_guessed rows names s count at k apart l p =
+    guess-right rows names s count at k l (apart-own rows names count k apart l) p
 
-module _ (fields : List Field) (s : List ℕ) (at : ℕ) (n : NameRead) (is_name : n ≡ name_at fields s at) where
-  pub name-told : at ≤ length s → NameIn fields s at n
-  name-told l = rw is_name (name_in fields s at l)
+pub ruleset guessing = (guess_named, name_guessed)
 
-  module _ (cells : List ℕ) (base : ℕ) where
-    pub pair-unknown : (kind place : ℕ) → n ≡ Unknown kind place → cells_filled cells (Fault kind place) ≡ pair_at fields s at cells base
-    unfolding pair_at after_name
-    pair-unknown kind place e = rw (← is_name, e)
+module _ (fields : List Field) (s : List ℕ) (at : ℕ) (cells : List ℕ) (base : ℕ) where
+  pub pair_unknown : (e : Fault) → name_at fields s at ≡ Err e → pair_at fields s at cells base ≡ cells_filled cells (Err e)
+  unfolding pair_at after_name
+  pair_unknown e h = rw (h, after_name)
 
-    module _ (k end : ℕ) (known : n ≡ Known k end) where
-      pub pair-twice : 0 < start_cell cells base k → cells_filled cells (Fault 14 at) ≡ pair_at fields s at cells base
-      unfolding pair_at after_name is_read
-      pair-twice l = rw (← is_name, known, lt-ltb 0 (start_cell cells base k) l)
+  module _ (n : Named) (known : name_at fields s at ≡ Ok n) where
+    pub pair_twice : 0 < get_or cells (base + 2 * n.index) 0 → pair_at fields s at cells base ≡ cells_filled cells (fault_at 14 at)
+    unfolding pair_at after_name is_read start_cell
+    pair_twice l = rw (known, after_name, lt-ltb 0 (get_or cells (base + 2 * n.index) 0) l)
 
-      module _ (fresh : start_cell cells base k ≤ 0) (r : Reading) (is_colon : r ≡ colon_at s end) where
-        pub pair-colon : (kind place : ℕ) → r ≡ Fault kind place → cells_filled cells (Fault kind place) ≡ pair_at fields s at cells base
-        unfolding pair_at after_name is_read after_colon
-        pair-colon kind place e = rw (← is_name, known, le-ltb 0 (start_cell cells base k) fresh, ← is_colon, e)
+    module _ (fresh : get_or cells (base + 2 * n.index) 0 ≤ 0) where
+      pub pair_colon : (e : Fault) → colon_at s n.end ≡ Err e → pair_at fields s at cells base ≡ cells_filled cells (Err e)
+      unfolding pair_at after_name is_read start_cell after_colon
+      pair_colon e h = rw (known, after_name, le-ltb 0 (get_or cells (base + 2 * n.index) 0) fresh, h, after_colon)
 
-        pub pair-value : (start ty : ℕ) (f : Filled) → r ≡ Whole start → ty ≡ type_of fields k → f ≡ stored_value cells base k start (value_at s start ty) → f ≡ pair_at fields s at cells base
-        unfolding pair_at after_name is_read after_colon
-        pair-value start ty f e is_type is_stored =
-            rw (← is_name, known, le-ltb 0 (start_cell cells base k) fresh, ← is_colon, e, ← is_type) is_stored
+      pub pair_value : (start : ℕ) → colon_at s n.end ≡ Ok start → pair_at fields s at cells base ≡ stored_value cells base n.index start (value_at s start (type_of fields n.index))
+      unfolding pair_at after_name is_read start_cell after_colon
+      pair_value start h = rw (known, after_name, le-ltb 0 (get_or cells (base + 2 * n.index) 0) fresh, h, after_colon)
+
+      -- and by the type that the field's row has
+      pub pair_stored : (start : ℕ) → colon_at s n.end ≡ Ok start → (ty : ℕ) → ty ≡ type_of fields n.index → (f : Filled) → f ≡ stored_value cells base n.index start (value_at s start ty) → f ≡ pair_at fields s at cells base
+      pair_stored start h ty is_type f is_stored =
+          is_stored ∙ ap (λ t. stored_value cells base n.index start (value_at s start t)) is_type ∙ sym (pair_value start h)
+
+-- the field is one of the table's, and what stands behind its name stands in the file
+module _ (rows names : List ℕ) (count : ℕ) (s : List ℕ) (at : ℕ) (n : Named) (l : at ≤ length s) (known : name_at (fields_from rows names count 0) s at ≡ Ok n) where
+  pub known_field : n.index < count
+  known_field =
+      let h : NameIn (fields_from rows names count 0) s at (Ok n) = rw known at (name_in (fields_from rows names count 0) s at l) in
+      omega (arith, h.0, fields-length rows names count 0)
+
+  pub known_end : n.end ≤ length s
+  known_end =
+      let h : NameIn (fields_from rows names count 0) s at (Ok n) = rw known at (name_in (fields_from rows names count 0) s at l) in
+      h.1.1
+
+pub colon_place : (s : List ℕ) (end start : ℕ) → end ≤ length s → colon_at s end ≡ Ok start → start ≤ length s
+colon_place s end start l e =
+    let h : Within s end (Ok start) = rw e at (colon-in s end l) in
+    h.1
+
+pub ruleset pairing = (pair_unknown, pair_twice, pair_colon, pair_value, known_field, known_end, colon_place, type-told)
 
 -- ---- the closing brace
 module _ (fields : List Field) (cells : List ℕ) (base at : ℕ) (t : Bool) (is_missed : t ≡ is_missing fields cells base 0) where
-  pub close-missing : t ≡ true → record_closed_at fields cells base at ≡ Fault 19 at
+  pub close-missing : t ≡ true → record_closed_at fields cells base at ≡ fault_at 19 at
   unfolding record_closed_at
   close-missing e = rw (← is_missed, e)
 
-  pub close-whole : t ≡ false → record_closed_at fields cells base at ≡ Whole (at + 1)
+  pub close-whole : t ≡ false → record_closed_at fields cells base at ≡ Ok (at + 1)
   unfolding record_closed_at
   close-whole e = rw (← is_missed, e)
 
@@ -174,12 +166,12 @@ module _ (fields : List Field) (s : List ℕ) (base : ℕ) (whole : Filled) (cel
   cells_told : (pair_at fields s at cells base).cells ≡ then
   cells_told = sym (ap (λ (f : Filled). f.cells) is_pair)
 
-  fault-by : (f : ℕ) → length s < at + f → at ≤ length s → pairs_from f fields s at cells base ≡ whole → (kind place : ℕ) → r ≡ Fault kind place → cells_filled then (Fault kind place) ≡ whole
+  fault-by : (f : ℕ) → length s < at + f → at ≤ length s → pairs_from f fields s at cells base ≡ whole → (x : Fault) → r ≡ Err x → cells_filled then (Err x) ≡ whole
   unfolding pairs_from
-  fault-by zero m l q kind place e = absurd (omega arith)
-  fault-by (suc g) m l q kind place e = rw (outcome-told ∙ e, pairs_from, cells_told) at q
+  fault-by zero m l q x e = absurd (omega arith)
+  fault-by (suc g) m l q x e = rw (outcome-told ∙ e, pairs_from, cells_told) at q
 
-  module _ (end : ℕ) (is_whole : r ≡ Whole end) (x : Next) (is_next : x ≡ next_after s end 125) where
+  module _ (end : ℕ) (is_whole : r ≡ Ok end) (x : Next) (is_next : x ≡ next_after s end 125) where
     more_by : (f : ℕ) → length s < at + f → at ≤ length s → pairs_from f fields s at cells base ≡ whole → (next : ℕ) → at < next → next ≤ length s → x ≡ More next → Left fields s base whole then next
     unfolding pairs_from
     more_by zero m l q next h k e = absurd (omega arith)
@@ -197,7 +189,7 @@ module _ (fields : List Field) (s : List ℕ) (base : ℕ) (whole : Filled) (cel
     ends_by (suc g) m l q last t e is_closed =
         rw is_closed (rw (outcome-told ∙ is_whole, pairs_from, sym is_next ∙ e, pairs_from, cells_told) at q)
 
-    neither-by : (f : ℕ) → length s < at + f → at ≤ length s → pairs_from f fields s at cells base ≡ whole → (place : ℕ) → x ≡ Neither place → cells_filled then (Fault 11 place) ≡ whole
+    neither-by : (f : ℕ) → length s < at + f → at ≤ length s → pairs_from f fields s at cells base ≡ whole → (place : ℕ) → x ≡ Neither place → cells_filled then (fault_at 11 place) ≡ whole
     unfolding pairs_from
     neither-by zero m l q place e = absurd (omega arith)
     neither-by (suc g) m l q place e =
@@ -207,14 +199,14 @@ module _ (fields : List Field) (s : List ℕ) (base : ℕ) (whole : Filled) (cel
     pair_place : Within s at r
     pair_place = rw (ap (λ (f : Filled). f.outcome) is_pair) (pair-in fields s base cells at left.inside).place
 
-    pub turn-fault : (kind place : ℕ) → r ≡ Fault kind place → cells_filled then (Fault kind place) ≡ whole
+    pub turn-fault : (x : Fault) → r ≡ Err x → cells_filled then (Err x) ≡ whole
     turn-fault = fault-by left.fuel left.enough left.inside left.reads
 
-    module _ (end : ℕ) (is_whole : r ≡ Whole end) (x : Next) (is_next : x ≡ next_after s end 125) where
+    module _ (end : ℕ) (is_whole : r ≡ Ok end) (x : Next) (is_next : x ≡ next_after s end 125) where
       -- the pair ends behind its first byte, and what follows stands behind it
       pub next_place : (at < end) × ((end ≤ length s) × NextIn s end x)
       next_place =
-          let h : Within s at (Whole end) = rw is_whole at pair_place in
+          let h : Within s at (Ok end) = rw is_whole at pair_place in
           (h.0, (h.1, rw is_next (next-in s end h.1 125 (omega arith))))
 
       pub more-place : (next : ℕ) → x ≡ More next → (at < next) × (next ≤ length s)
@@ -234,7 +226,7 @@ module _ (fields : List Field) (s : List ℕ) (base : ℕ) (whole : Filled) (cel
       pub turn-ends : (last : ℕ) (t : Reading) → x ≡ Ends last → t ≡ record_closed_at fields then base last → cells_filled then t ≡ whole
       turn-ends = ends_by end is_whole x is_next left.fuel left.enough left.inside left.reads
 
-      pub turn-neither : (place : ℕ) → x ≡ Neither place → cells_filled then (Fault 11 place) ≡ whole
+      pub turn-neither : (place : ℕ) → x ≡ Neither place → cells_filled then (fault_at 11 place) ≡ whole
       turn-neither = neither-by end is_whole x is_next left.fuel left.enough left.inside left.reads
 
 -- ---- a record
@@ -255,7 +247,7 @@ module _ (fields : List Field) (s : List ℕ) (at : ℕ) (cells : List ℕ) (bas
   unfolding record_at
   record-room e = rw e
 
-  pub record-full : record_has_room s cells base (length fields) ≡ false → record_at fields s at cells base ≡ cells_filled cells (Fault 99 at)
+  pub record-full : record_has_room s cells base (length fields) ≡ false → record_at fields s at cells base ≡ cells_filled cells (fault_at 99 at)
   unfolding record_at
   record-full e = rw e
 
@@ -266,7 +258,7 @@ module _ (rows names : List ℕ) (count : ℕ) (s : List ℕ) (at : ℕ) (cells 
   room-told : record_has_room s cells base (length fields) ≡ t
   room-told = rw (fields-length rows names count 0) (sym is_room)
 
-  pub record-none : t ≡ false → cells_filled cells (Fault 99 at) ≡ record_at fields s at cells base
+  pub record-none : t ≡ false → cells_filled cells (fault_at 99 at) ≡ record_at fields s at cells base
   record-none e = sym (record-full fields s at cells base (room-told ∙ e))
 
   module _ (room : t ≡ true) (then : List ℕ) (is_cleared : then ≡ cleared cells base (2 * count)) (x : Next) (is_first : x ≡ first_in s at 125) where
@@ -282,6 +274,6 @@ module _ (rows names : List ℕ) (count : ℕ) (s : List ℕ) (at : ℕ) (cells 
     unfolding members_of
     record-ends last r e is_closed = rw (record-whole, e, is_closed)
 
-    pub record-neither : (place : ℕ) → x ≡ Neither place → cells_filled then (Fault 11 place) ≡ record_at fields s at cells base
+    pub record-neither : (place : ℕ) → x ≡ Neither place → cells_filled then (fault_at 11 place) ≡ record_at fields s at cells base
     unfolding members_of
     record-neither place e = rw (record-whole, e)

@@ -99,6 +99,8 @@ module _ (cells : List ℕ) (base : ℕ) (required : List ℕ) (i : ℕ) where
   unfolding is_one_empty
   missing-none l = rw (drop_of_length-le required l)
 
+pub ruleset missing = (number-below, missing-starts, missing-found, missing-more, missing-none)
+
 -- ---- how they are put down: the first n places, with what the fields from k on put behind them, are the whole, and behind
 -- them stands what stood there before
 pub record Filling (rows : List ℕ) (count room : ℕ) (before required : List ℕ) (n k : ℕ) : Type 0 where

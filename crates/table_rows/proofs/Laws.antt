@@ -4,9 +4,9 @@ use Prim.Native.Nat.{ℕ, zero, suc, ◌+◌, ◌-◌, ◌*◌, ◌/◌, ◌≤�
 use mathlib.Core.Path.{◌≡◌, refl, sym, ap, ◌∙◌}
 use mathlib.Core.Bool.{Bool, true, false, not, ◌&&◌, ◌||◌}
 use mathlib.Core.List.{List, [], ◌∷◌, map, flatten}
-use native.Mathlib.Nat.{add-zero, add-suc, suc-add, zero-add, mul-zero, not-suc-le-zero, le-div_iff_mul-le, div-lt_iff_lt-mul}
+use native.Mathlib.Nat.{add-zero, add-suc, suc-add, zero-add, not-suc-le-zero}
 use native.Mathlib.Omega.{arith}
-use lib.ListN.{length, get_or, take, drop, length-append, length-drop, drop_of_length-le, get_or-eq_default}
+use lib.ListN.{length, get_or, take, drop, length-append, length-drop, drop_of_length-le}
 use lib.Seq.{take_all, get_or-drop, take-nil, drop-length}
 use borrow.Author.Tests.{ne_eqb, ltb-true, not-true}
 use lib.Dec.{eqb, ltb}
@@ -125,27 +125,6 @@ module _ {A : Type 0} where
   count-within (g ∷ gs) zero = rw length-append (omega arith)
   count-within (g ∷ gs) (suc t) = rw (length-append, length-append) (omega (arith, count-within gs t))
 
--- ---- one number of a row, and past the rows' end
-module _ (s : List ℕ) (width row k : ℕ) (none : width ≡ 0) where
-  pub cell-front : cell_at s width row k ≡ get_or s k 0
-  unfolding cell_at
-  cell-front = rw (none, mul-zero row, zero-add k)
-
-  pub cell-past-front : length s ≤ k → cell_at s width row k ≡ 0
-  cell-past-front l = cell-front ∙ get_or-eq_default s 0 l
-
-module _ (s : List ℕ) (width row : ℕ) (wide : 0 < width) where
-  pub rows-within : row ≤ length s / width → row * width ≤ length s
-  rows-within = (le-div_iff_mul-le wide).0
-
-  pub cell-past-rows : (k : ℕ) → length s / width < row → cell_at s width row k ≡ 0
-  unfolding cell_at
-  cell-past-rows k h = get_or-eq_default s 0 (omega (arith, (div-lt_iff_lt-mul wide).0 h))
-
-  pub cell-past-end : (k : ℕ) → row ≤ length s / width → length s - row * width ≤ k → cell_at s width row k ≡ 0
-  unfolding cell_at
-  cell-past-end k h l = get_or-eq_default s 0 (omega (arith, rows-within h))
-
 -- ---- fields and values read back, one after the other
 module _ (rows names : List ℕ) where
   pub fields-length : (n f : ℕ) → length (fields_from rows names n f) ≡ n
@@ -225,3 +204,8 @@ module _ (rows : List ℕ) where
     pub fields-in-length : length (fields_in rows names k) ≡ field_count rows k
     unfolding fields_in
     fields-in-length = fields-length rows names (field_count rows k) (first_field rows k)
+
+-- what a walk along such a run needs, and what takes the rows behind the first of them
+pub ruleset walking = (row_counts, row-stops, rows_end)
+
+pub ruleset parting = (rows-past, rows-rest)

@@ -1,13 +1,14 @@
 // Readers of lent rows: a table's fields, five numbers each, and enumeration values, two numbers
 // each. They know the form of the rows and no document.
-#![tactic(auto)]
+#![tactic(auto, unfolding(crate::specs::Rows::cell_at, crate::specs::Rows::first_field, crate::specs::Rows::field_count, crate::specs::Run::counts))]
 
 ghost use Rattle.std.specs.Prelude.{◌≡◌, drop};
 ghost use Rattle.json_bytes.specs.Reads.{leading};
 ghost use Rattle.table_rows.specs.Rows.{cell_at, type_at, nullable_at, name_start, name_end, rows_after, tables_in, first_field, field_count, value_name_start, value_end};
 ghost use Rattle.table_rows.specs.Run.{counts};
 
-// The primitive data types, by the numbers that rows hold.
+// The primitive data types, by the numbers that rows hold. No enum (what may not change): a lent row may hold any
+// number, and the contracts of `field_type` and of `value_at` above speak of each.
 pub const BOOLEAN: u32 = 0;
 
 pub const DATE: u32 = 1;
@@ -28,20 +29,13 @@ pub const TEXT: u32 = 6;
 pub fn cell_at(rows: &[u32], width: usize, row: usize, k: usize) -> u32
     ensures { result ≡ cell_at rows.now width row k }
 {
-    if width == 0 {
-        if rows.len() <= k {
-            return 0;
-        }
-        return rows[k];
-    }
-    if rows.len() / width < row {
+    let Some(before) = row.checked_mul(width) else {
         return 0;
-    }
-    let at = row * width;
-    if rows.len() - at <= k {
+    };
+    let Some(at) = before.checked_add(k) else {
         return 0;
-    }
-    rows[at + k]
+    };
+    if at < rows.len() { rows[at] } else { 0 }
 }
 
 pub fn field_type(rows: &[u32], f: usize) -> u32
@@ -86,6 +80,7 @@ pub fn value_end(places: &[u32], v: usize) -> usize
 
 // The rows behind the first f of them, as that part of the lent rows; empty where there are not so
 // many.
+#[tactic(auto, using(crate::proofs::Laws::parting))]
 pub fn rows_after(rows: &[u32], f: usize) -> &[u32]
     ensures { result.now ≡ rows_after rows.now f }
 {
@@ -101,24 +96,23 @@ fn is_counted(t: u32, k: usize, own: bool) -> bool
     ensures { result ≡ counts k own t }
 {
     if own {
-        return t as usize == k;
+        t as usize == k
+    } else {
+        t as usize != k
     }
-    t as usize != k
 }
 
 // How many rows from `from` on count, one behind the other.
+#[tactic(auto, using(crate::proofs::Laws::walking))]
 fn run(rows: &[u32], k: usize, own: bool, from: usize) -> usize
     ensures { result ≡ leading (counts k own) (drop from (tables_in rows.now)) }
 {
-    let count = rows.len() / 5;
-    let mut f = from;
-    while f < count {
+    for f in from..rows.len() / 5 {
         if !is_counted(rows[f * 5], k, own) {
             return f - from;
         }
-        f += 1;
     }
-    f - from
+    (rows.len() / 5).saturating_sub(from)
 }
 
 // The number of table k's first field; the count of all rows where it has none.

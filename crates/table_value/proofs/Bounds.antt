@@ -1,14 +1,13 @@
 -- What a caller needs of a value: it ends behind its first byte and within the file, and a fault's place lies within the
 -- file or at its length.
 -- Assumes nothing.
+use Rattle.std.specs.Prelude.{Ok, Err}
 use Prim.Native.Nat.{ℕ, ◌+◌, ◌≤◌, ◌<◌}
 use mathlib.Core.Path.{◌≡◌}
 use mathlib.Core.List.{List}
 use lib.ListN.{length}
 use lib.Dec.{ltb, eqb}
-use Rattle.json_bytes.specs.Reads.{byte_at, within, literal_at}
-use Rattle.json_bytes.specs.declared.Reading.{Reading}
-use Rattle.json_bytes.specs.declared.Reading.TheVariants.{Whole, Fault}
+use Rattle.json_bytes.specs.Reads.{byte_at, within, literal_at, Reading}
 use Rattle.json_bytes.proofs.Laws.{by-test}
 use Rattle.json_bytes.proofs.Bounds.{Within, literal-within}
 use Rattle.json_chars.specs.Chars.{chars_at}
@@ -24,9 +23,8 @@ use Rattle.json_number.specs.declared.Value.TheVariants.{Fits, Beyond}
 use Rattle.json_number.specs.declared.Integer.{Integer}
 use Rattle.json_number.specs.declared.Integer.TheVariants.{Is, Fraction, TooLarge}
 use Rattle.json_number.proofs.Places.{ReadingIn, number-in}
-use Rattle.json_date.specs.Date.{date_of}
-use Rattle.json_date.specs.declared.Date.{Date}
-use Rattle.json_date.specs.declared.Date.TheVariants.{Day, NoDate}
+use Rattle.json_date.specs.Date.{Date, date_of}
+use Rattle.std.specs.Prelude.{Some, None}
 use Rattle.table_value.specs.Value.{
   text_type,
   text_held,
@@ -68,12 +66,12 @@ module _ (s : List ℕ) (at : ℕ) (l : at ≤ length s) where
       (λ _. by-test (ValueIn s at) (eqb ty 1) _ _ (λ _. of-date (date_of (chars_at s at))) (λ _. l))
     where
       of-date : (d : Date) → ValueIn s at (date_held at end d)
-      of-date (Day year month day) = h
-      of-date NoDate = l
+      of-date (Some day) = h
+      of-date None = l
 
-  of-text : (ty : ℕ) (wrong : Wrong) → wrong.place ≤ length s → (r : Reading) → Within s at r → ValueIn s at (elim r [ Whole end ↦ string_in s at ty end wrong | Fault kind place ↦ Bad kind place ])
-  of-text ty wrong w (Whole end) h = string-in ty end wrong w h
-  of-text ty wrong w (Fault kind place) h = h
+  of-text : (ty : ℕ) (wrong : Wrong) → wrong.place ≤ length s → (r : Reading) → Within s at r → ValueIn s at (elim r [ Ok end ↦ string_in s at ty end wrong | Err e ↦ Bad e.kind e.place ])
+  of-text ty wrong w (Ok end) h = string-in ty end wrong w h
+  of-text ty wrong w (Err e) h = h
 
   number-held : (ty end : ℕ) (v : Value) → (at < end) × (end ≤ length s) → ValueIn s at (number_in at ty end v)
   unfolding number_in decimal_held integer_held
@@ -91,18 +89,18 @@ module _ (s : List ℕ) (at : ℕ) (l : at ≤ length s) where
       of-integer TooLarge = l
 
   number-within : (r : Reading) → ReadingIn s at r → Within s at r
-  number-within (Whole end) h = h
-  number-within (Fault kind place) h = h.1 l
+  number-within (Ok end) h = h
+  number-within (Err e) h = h.1 l
 
-  of_number : (ty : ℕ) (v : Value) (r : Reading) → Within s at r → ValueIn s at (elim r [ Whole end ↦ number_in at ty end v | Fault kind place ↦ Bad kind place ])
-  of_number ty v (Whole end) h = number-held ty end v h
-  of_number ty v (Fault kind place) h = h
+  of_number : (ty : ℕ) (v : Value) (r : Reading) → Within s at r → ValueIn s at (elim r [ Ok end ↦ number_in at ty end v | Err e ↦ Bad e.kind e.place ])
+  of_number ty v (Ok end) h = number-held ty end v h
+  of_number ty v (Err e) h = h
 
   of-literal : (ty : ℕ) (r : Reading) → Within s at r → ValueIn s at (literal_value s at ty r)
   unfolding literal_value literal_in
-  of-literal ty (Whole end) h =
+  of-literal ty (Ok end) h =
       by-test (ValueIn s at) (eqb (byte_at s at) 110) _ _ (λ _. h) (λ _. by-test (ValueIn s at) (eqb ty 0) _ _ (λ _. h) (λ _. l))
-  of-literal ty (Fault kind place) h = h
+  of-literal ty (Err e) h = h
 
   pub value_in : (ty : ℕ) → ValueIn s at (value_at s at ty)
   unfolding value_at string_value number_value text_read
@@ -113,8 +111,8 @@ module _ (s : List ℕ) (at : ℕ) (l : at ≤ length s) where
 
   not-of : (r : Reading) → Within s at r → Within s at (not_object_of at r)
   unfolding not_object_of
-  not-of (Whole end) h = l
-  not-of (Fault kind place) h = h
+  not-of (Ok end) h = l
+  not-of (Err e) h = h
 
   pub not-object-in : Within s at (not_object_at s at)
   unfolding not_object_at token_at

@@ -1,5 +1,6 @@
 -- Which kinds a value can give, by the type of its field and by what stands there.
 -- Assumes nothing.
+use Rattle.std.specs.Prelude.{Ok}
 use Prim.Native.Nat.{ℕ, ◌+◌, ◌≤◌}
 use mathlib.Core.Path.{◌≡◌, refl, sym, subst, ◌∙◌}
 use mathlib.Core.Bool.{Bool, true, false, cond, false≢true}
@@ -7,9 +8,7 @@ use mathlib.Core.List.{List, [], ◌∷◌, ◌++◌, map, flat_map}
 use native.Mathlib.Omega.{arith}
 use borrow.Author.Tests.{ltb-true, ltb-false, le-leb, lt-leb, ne_eqb}
 use lib.Dec.{ltb, eqb}
-use Rattle.json_bytes.specs.Reads.{byte_at, within, literal_at}
-use Rattle.json_bytes.specs.declared.Reading.{Reading}
-use Rattle.json_bytes.specs.declared.Reading.TheVariants.{Whole, Fault}
+use Rattle.json_bytes.specs.Reads.{byte_at, within, literal_at, Reading, fault_at}
 use Rattle.json_bytes.proofs.Laws.{either, together, by-test}
 use Rattle.json_bytes.proofs.FaultKinds.{is_in, In, every, each, wider, in_left, in_right, below, below_in, in_order, Faults, of-reading, kind_of, literal_kinds, literal-kinds}
 use Rattle.json_chars.specs.Chars.{chars_at}
@@ -24,9 +23,8 @@ use Rattle.json_number.specs.declared.Value.TheVariants.{Fits, Beyond}
 use Rattle.json_number.specs.declared.Integer.{Integer}
 use Rattle.json_number.specs.declared.Integer.TheVariants.{Is, Fraction, TooLarge}
 use Rattle.json_number.proofs.FaultKinds.{number_kinds, number-kinds}
-use Rattle.json_date.specs.Date.{date_of}
-use Rattle.json_date.specs.declared.Date.{Date}
-use Rattle.json_date.specs.declared.Date.TheVariants.{Day, NoDate}
+use Rattle.json_date.specs.Date.{Date, date_of}
+use Rattle.std.specs.Prelude.{Some, None}
 use Rattle.table_value.specs.Value.{
   text_type,
   text_held,
@@ -87,9 +85,9 @@ module _ (ks more : List ℕ) where
       (value-wider more (ks ++ more) (in_right ks more) w q)
 
   -- a reading, and what is found behind it
-  judged : (f : Reading → ValueRead) → ((kind place : ℕ) → f (Fault kind place) ≡ Bad kind place) → ((end : ℕ) → ValueFaults more (f (Whole end))) → (r : Reading) → Faults ks r → ValueFaults (ks ++ more) (f r)
+  judged : (f : Reading → ValueRead) → ((kind place : ℕ) → f (fault_at kind place) ≡ Bad kind place) → ((end : ℕ) → ValueFaults more (f (Ok end))) → (r : Reading) → Faults ks r → ValueFaults (ks ++ more) (f r)
   judged f bad found =
-      of-reading (λ r. ValueFaults (ks ++ more) (f r)) ks (λ end. value-wider more (ks ++ more) (in_right ks more) (f (Whole end)) (found end))
+      of-reading (λ r. ValueFaults (ks ++ more) (f r)) ks (λ end. value-wider more (ks ++ more) (in_right ks more) (f (Ok end)) (found end))
       (λ kind place h. rw (bad kind place) (in_left ks more kind h))
 
 -- a rule's number and its kind
@@ -108,8 +106,8 @@ Gives v ks = ValueFaults ks v
 module _ (s : List ℕ) (at ty : ℕ) where
   date-found : (end : ℕ) (d : Date) → ValueFaults (17 ∷ []) (date_held at end d)
   unfolding date_held
-  date-found end (Day year month day) = tt
-  date-found end NoDate = refl
+  date-found end (Some day) = tt
+  date-found end None = refl
 
   string-found : (wrong : Wrong) → Rule (text_type ty) wrong.rule → (end : ℕ) → ValueFaults (string_found ty) (string_in s at ty end wrong)
   unfolding string_in text_held
@@ -174,13 +172,13 @@ module _ (s : List ℕ) (at ty : ℕ) where
   number-value-kinds e = rw (number_is e) of_number
 
   -- and is read whole
-  pub whole-number-kinds : starts_number (byte_at s at) ≡ true → (end : ℕ) → (number_at s at).reading ≡ Whole end → ValueFaults (number_found ty) (value_at s at ty)
+  pub whole-number-kinds : starts_number (byte_at s at) ≡ true → (end : ℕ) → (number_at s at).reading ≡ Ok end → ValueFaults (number_found ty) (value_at s at ty)
   unfolding number_value
   whole-number-kinds e end whole = rw (number_is e, whole, number_value) (number-found (number_at s at).value end)
 
 -- document 02, order 4: "A fractional Integer becomes 34": a number in an Integer field is 11 while it is read, and 18 or 34
 -- once it is read whole
-pub integer-kinds : (s : List ℕ) (at end : ℕ) → starts_number (byte_at s at) ≡ true → (number_at s at).reading ≡ Whole end → ValueFaults (18 ∷ 34 ∷ []) (value_at s at 3)
+pub integer-kinds : (s : List ℕ) (at end : ℕ) → starts_number (byte_at s at) ≡ true → (number_at s at).reading ≡ Ok end → ValueFaults (18 ∷ 34 ∷ []) (value_at s at 3)
 integer-kinds s at end e = whole-number-kinds s at 3 e end
 
 pub integer-number-never-15 : (s : List ℕ) (at place : ℕ) → starts_number (byte_at s at) ≡ true → value_at s at 3 ≡ Bad 15 place → ⊥

@@ -1,10 +1,8 @@
 -- A value in a field of a type, document 01, "Marks 0 to 19": "A string, number or literal is read whole, then judged; an
 -- array or object where none belongs is judged at its opening byte."
 -- No value but null belongs in a field of a number that is no type's.
-use Rattle.std.specs.Prelude.{ℕ, ◌+◌, Bool, cond, ◌||◌, List, ltb, eqb}
-use Rattle.json_bytes.specs.Reads.{byte_at, within, literal_at}
-use Rattle.json_bytes.specs.declared.Reading.{Reading}
-use Rattle.json_bytes.specs.declared.Reading.TheVariants.{Whole, Fault}
+use Rattle.std.specs.Prelude.{ℕ, ◌+◌, Bool, cond, ◌||◌, List, ltb, eqb, Ok, Err, Some, None}
+use Rattle.json_bytes.specs.Reads.{byte_at, within, literal_at, Reading, fault_at}
 use Rattle.json_chars.specs.Chars.{chars_at}
 use Rattle.json_text.specs.Text.{text_read_at, text_read}
 use Rattle.json_text.specs.declared.TextType.{TextType}
@@ -17,9 +15,7 @@ use Rattle.json_number.specs.declared.Value.{Value}
 use Rattle.json_number.specs.declared.Value.TheVariants.{Fits, Beyond}
 use Rattle.json_number.specs.declared.Integer.{Integer}
 use Rattle.json_number.specs.declared.Integer.TheVariants.{Is, Fraction, TooLarge}
-use Rattle.json_date.specs.Date.{date_of}
-use Rattle.json_date.specs.declared.Date.{Date}
-use Rattle.json_date.specs.declared.Date.TheVariants.{Day, NoDate}
+use Rattle.json_date.specs.Date.{Date, date_of}
 use Rattle.table_rows.specs.Types.{boolean, date, decimal_type, integer, string, string_id, text}
 use Rattle.table_value.specs.declared.ValueRead.{ValueRead}
 use Rattle.table_value.specs.declared.ValueRead.TheVariants.{Held, Null, Bad}
@@ -37,8 +33,8 @@ text_held at end wrong =
 
 -- 17: not a valid date, at the opening quote; the empty string too
 unfoldable pub date_held : ℕ → ℕ → Date → ValueRead
-date_held at end (Day year month day) = Held end
-date_held at end NoDate = Bad 17 at
+date_held at end (Some day) = Held end
+date_held at end None = Bad 17 at
 
 -- String, StringID and Text are numbered one behind the other; a string read whole in a field of another JSON kind is 15,
 -- whatever its characters
@@ -48,7 +44,7 @@ string_in s at ty end wrong =
 
 unfoldable pub string_value : List ℕ → ℕ → ℕ → TextRead → ValueRead
 string_value s at ty t =
-    elim t.reading [ Whole end ↦ string_in s at ty end t.wrong | Fault kind place ↦ Bad kind place ]
+    elim t.reading [ Ok end ↦ string_in s at ty end t.wrong | Err e ↦ Bad e.kind e.place ]
 
 -- ---- A number: 18 outside the limits, 34 for an Integer that isn't whole (document 02, order 4), each at its first byte
 unfoldable pub decimal_held : ℕ → ℕ → Value → ValueRead
@@ -66,15 +62,15 @@ number_in at ty end v =
 
 unfoldable pub number_value : ℕ → ℕ → Number → ValueRead
 number_value at ty n =
-    elim n.reading [ Whole end ↦ number_in at ty end n.value | Fault kind place ↦ Bad kind place ]
+    elim n.reading [ Ok end ↦ number_in at ty end n.value | Err e ↦ Bad e.kind e.place ]
 
 -- ---- A literal: null belongs in every type, true and false in a Boolean. A byte that begins no value is 11 here.
 unfoldable pub literal_in : List ℕ → ℕ → ℕ → ℕ → ValueRead
 literal_in s at ty end = cond (eqb (byte_at s at) 110) (Null end) (cond (eqb ty boolean) (Held end) (Bad 15 at))
 
 unfoldable pub literal_value : List ℕ → ℕ → ℕ → Reading → ValueRead
-literal_value s at ty (Whole end) = literal_in s at ty end
-literal_value s at ty (Fault kind place) = Bad kind place
+literal_value s at ty (Ok end) = literal_in s at ty end
+literal_value s at ty (Err e) = Bad e.kind e.place
 
 -- ---- The value at a place: its first byte says what it is
 unfoldable pub starts_number : ℕ → Bool
@@ -98,9 +94,9 @@ token_at s at =
 
 -- it is read whole, then judged
 unfoldable pub not_object_of : ℕ → Reading → Reading
-not_object_of at (Whole end) = Fault 12 at
-not_object_of at (Fault kind place) = Fault kind place
+not_object_of at (Ok end) = fault_at 12 at
+not_object_of at (Err e) = Err e
 
 -- an array or object is judged at its opening byte
 unfoldable pub not_object_at : List ℕ → ℕ → Reading
-not_object_at s at = cond (opens (byte_at s at)) (Fault 12 at) (not_object_of at (token_at s at))
+not_object_at s at = cond (opens (byte_at s at)) (fault_at 12 at) (not_object_of at (token_at s at))

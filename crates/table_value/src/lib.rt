@@ -1,6 +1,6 @@
 // A value in a field of a type: where it ends and whether it is null, or the kind and place of its
 // fault.
-#![tactic(auto)]
+#![tactic(auto, unfolding(crate::specs::Value::text_type, crate::specs::Value::text_held, crate::specs::Value::date_held, crate::specs::Value::string_in, crate::specs::Value::string_value, crate::specs::Value::decimal_held, crate::specs::Value::integer_held, crate::specs::Value::number_in, crate::specs::Value::number_value, crate::specs::Value::literal_in, crate::specs::Value::literal_value, crate::specs::Value::starts_number, crate::specs::Value::opens, crate::specs::Value::value_at, crate::specs::Value::token_at, crate::specs::Value::not_object_of, crate::specs::Value::not_object_at, json_bytes::specs::Reads::within))]
 
 ghost use Rattle.std.specs.Prelude.{◌≡◌, ◌&&◌, ◌≤◌, ◌<◌, ◌^◌, length, eqb};
 ghost use Rattle.json_bytes.specs.Reads.{literal_at};
@@ -11,13 +11,14 @@ ghost use Rattle.json_date.specs.Plain.{is_plain_date};
 ghost use Rattle.table_rows.specs.Types.{date};
 ghost use Rattle.table_value.specs.Value.{text_type, text_held, date_held, string_in, string_value, decimal_held, integer_held, number_in, number_value, literal_in, literal_value, starts_number, opens, value_at, token_at, not_object_at};
 
-use json_bytes::{Reading, byte_at, is_within, literal_at};
-use json_date::{Date, date_at, is_plain_date};
+use json_bytes::{Fault, Reading, byte_at, literal_at};
+use json_date::{Day, date_at, is_plain_date};
 use json_number::{Integer, Number, Value, integer_of, number_at, short_end};
 use json_text::{TextRead, TextType, Wrong, plain_end, read_text};
 use table_rows::{BOOLEAN, DATE, DECIMAL, INTEGER, STRING, STRING_ID, TEXT};
 
-// A value read whole, the place behind it with it, or a fault.
+// A value read whole, the place behind it with it, or a fault. No Result, which is no plainer: a null is neither held nor
+// at fault, so that three ways stay.
 #[derive(Clone, Copy)]
 pub enum ValueRead {
     Held { end: usize },
@@ -28,13 +29,11 @@ pub enum ValueRead {
 fn text_type(ty: u32) -> TextType
     ensures { result ≡ text_type ty }
 {
-    if ty == STRING {
-        return TextType::String;
+    match ty {
+        STRING => TextType::String,
+        STRING_ID => TextType::StringID,
+        _ => TextType::Text,
     }
-    if ty == STRING_ID {
-        return TextType::StringID;
-    }
-    TextType::Text
 }
 
 // A string in a field of text: the rules 1 to 4 of its first wrong character are the kinds 30 to 33.
@@ -49,21 +48,18 @@ fn text_held(at: usize, end: usize, wrong: Wrong) -> ValueRead
         };
     }
     if end == at + 2 {
-        return ValueRead::Null { end };
+        ValueRead::Null { end }
+    } else {
+        ValueRead::Held { end }
     }
-    ValueRead::Held { end }
 }
 
-fn date_held(at: usize, end: usize, date: Date) -> ValueRead
+fn date_held(at: usize, end: usize, date: Option<Day>) -> ValueRead
     ensures { result ≡ date_held at end date }
 {
     match date {
-        Date::Day {
-            year: _,
-            month: _,
-            day: _,
-        } => ValueRead::Held { end },
-        Date::NoDate => ValueRead::Bad {
+        Some(_) => ValueRead::Held { end },
+        None => ValueRead::Bad {
             kind: 17,
             place: at,
         },
@@ -74,15 +70,13 @@ fn string_in(s: &[u8], at: usize, ty: u32, end: usize, wrong: Wrong) -> ValueRea
     requires { (at < length s.now) × (wrong.rule ≤ 4) }
     ensures { result ≡ string_in s.now at ty end wrong }
 {
-    if is_within(STRING, TEXT, ty) {
-        return text_held(at, end, wrong);
-    }
-    if ty == DATE {
-        return date_held(at, end, date_at(s, at));
-    }
-    ValueRead::Bad {
-        kind: 15,
-        place: at,
+    match ty {
+        STRING..=TEXT => text_held(at, end, wrong),
+        DATE => date_held(at, end, date_at(s, at)),
+        _ => ValueRead::Bad {
+            kind: 15,
+            place: at,
+        },
     }
 }
 
@@ -90,10 +84,7 @@ fn string_in(s: &[u8], at: usize, ty: u32, end: usize, wrong: Wrong) -> ValueRea
 fn is_date_there(s: &[u8], at: usize, ty: u32) -> bool
     ensures { result ≡ (eqb ty date && is_plain_date s.now at) }
 {
-    if ty == DATE {
-        return is_plain_date(s, at);
-    }
-    false
+    ty == DATE && is_plain_date(s, at)
 }
 
 // The place of the closing quote of a string that holds only bytes which are characters by themselves and break
@@ -102,14 +93,12 @@ fn is_date_there(s: &[u8], at: usize, ty: u32) -> bool
 fn plain_close(s: &[u8], at: usize, ty: u32) -> usize
     ensures { 0 < result → result ≡ plain_end s.now at }
 {
-    if ty == STRING {
-        return 0;
-    }
-    plain_end(s, at)
+    if ty == STRING { 0 } else { plain_end(s, at) }
 }
 
 // Most dates are told by their twelve bytes, and most IDs hold only bytes that are characters by themselves and
 // break no rule: neither needs its characters read one by one. Such an ID has a byte, so it is held.
+#[tactic(auto, using(crate::proofs::Plain::strings), unfolding(crate::specs::Value::string_value))]
 fn string_value(s: &[u8], at: usize, ty: u32) -> ValueRead
     requires { at < length s.now }
     ensures { result ≡ string_value s.now at ty (text_read (text_type ty) s.now at) }
@@ -120,17 +109,15 @@ fn string_value(s: &[u8], at: usize, ty: u32) -> ValueRead
     let close = plain_close(s, at, ty);
     if 0 < close {
         let end = close + 1;
-        if is_within(STRING, TEXT, ty) {
+        if (STRING..=TEXT).contains(&ty) {
             return ValueRead::Held { end };
         }
         return string_in(s, at, ty, end, Wrong { rule: 0, place: 0 });
     }
     let read = read_text(s, at, text_type(ty));
-    let reading = read.reading;
-    let wrong = read.wrong;
-    match reading {
-        Reading::Whole { end } => string_in(s, at, ty, end, wrong),
-        Reading::Fault { kind, place } => ValueRead::Bad { kind, place },
+    match read.reading {
+        Ok(end) => string_in(s, at, ty, end, read.wrong),
+        Err(Fault { kind, place }) => ValueRead::Bad { kind, place },
     }
 }
 
@@ -172,31 +159,28 @@ fn integer_held(at: usize, end: usize, n: Integer) -> ValueRead
 fn number_in(at: usize, ty: u32, end: usize, v: Value) -> ValueRead
     ensures { result ≡ number_in at ty end v }
 {
-    if ty == DECIMAL {
-        return decimal_held(at, end, v);
-    }
-    if ty == INTEGER {
-        return integer_held(at, end, integer_of(v));
-    }
-    ValueRead::Bad {
-        kind: 15,
-        place: at,
+    match ty {
+        DECIMAL => decimal_held(at, end, v),
+        INTEGER => integer_held(at, end, integer_of(v)),
+        _ => ValueRead::Bad {
+            kind: 15,
+            place: at,
+        },
     }
 }
 
 fn number_value(at: usize, ty: u32, n: Number) -> ValueRead
     ensures { result ≡ number_value at ty n }
 {
-    let reading = n.reading;
-    let value = n.value;
-    match reading {
-        Reading::Whole { end } => number_in(at, ty, end, value),
-        Reading::Fault { kind, place } => ValueRead::Bad { kind, place },
+    match n.reading {
+        Ok(end) => number_in(at, ty, end, n.value),
+        Err(Fault { kind, place }) => ValueRead::Bad { kind, place },
     }
 }
 
 // The number at a place, in a field of type ty. Most in a field of type Decimal are short: they are within
 // the limits, so that only their end is looked for and no value is worked out.
+#[tactic(auto, using(crate::proofs::Plain::short_held))]
 fn number_there(s: &[u8], at: usize, ty: u32) -> ValueRead
     ensures { result ≡ number_value at ty (number_at s.now at) }
 {
@@ -213,14 +197,14 @@ fn literal_in(s: &[u8], at: usize, ty: u32, end: usize) -> ValueRead
     ensures { result ≡ literal_in s.now at ty end }
 {
     if byte_at(s, at) == b'n' {
-        return ValueRead::Null { end };
-    }
-    if ty == BOOLEAN {
-        return ValueRead::Held { end };
-    }
-    ValueRead::Bad {
-        kind: 15,
-        place: at,
+        ValueRead::Null { end }
+    } else if ty == BOOLEAN {
+        ValueRead::Held { end }
+    } else {
+        ValueRead::Bad {
+            kind: 15,
+            place: at,
+        }
     }
 }
 
@@ -228,78 +212,67 @@ fn literal_value(s: &[u8], at: usize, ty: u32) -> ValueRead
     ensures { result ≡ literal_value s.now at ty (literal_at s.now at) }
 {
     match literal_at(s, at) {
-        Reading::Whole { end } => literal_in(s, at, ty, end),
-        Reading::Fault { kind, place } => ValueRead::Bad { kind, place },
+        Ok(end) => literal_in(s, at, ty, end),
+        Err(Fault { kind, place }) => ValueRead::Bad { kind, place },
     }
 }
 
 fn starts_number(b: u8) -> bool
     ensures { result ≡ starts_number b }
 {
-    if b == b'-' {
-        return true;
-    }
-    is_within(48, 57, b as u32)
+    matches!(b, b'-' | b'0'..=b'9')
 }
 
 fn is_opening(b: u8) -> bool
     ensures { result ≡ opens b }
 {
-    if b == b'[' {
-        return true;
-    }
-    b == b'{'
+    matches!(b, b'[' | b'{')
 }
 
 // The value at a place, in a field of type ty.
+#[tactic(auto, using(crate::proofs::Plain::inside_byte), unfolding(crate::specs::Value::value_at))]
 pub fn value_at(s: &[u8], at: usize, ty: u32) -> ValueRead
     ensures { result ≡ value_at s.now at ty }
 {
     let b = byte_at(s, at);
     if b == b'"' {
-        return string_value(s, at, ty);
-    }
-    if starts_number(b) {
-        return number_there(s, at, ty);
-    }
-    if is_opening(b) {
-        return ValueRead::Bad {
+        string_value(s, at, ty)
+    } else if starts_number(b) {
+        number_there(s, at, ty)
+    } else if is_opening(b) {
+        ValueRead::Bad {
             kind: 15,
             place: at,
-        };
+        }
+    } else {
+        literal_value(s, at, ty)
     }
-    literal_value(s, at, ty)
 }
 
 // Where a string, a number or a literal ends that begins at a place, or its fault.
+#[tactic(auto, unfolding(crate::specs::Value::token_at, json_text::specs::Text::text_read))]
 fn token_at(s: &[u8], at: usize) -> Reading
     ensures { result ≡ token_at s.now at }
 {
     let b = byte_at(s, at);
     if b == b'"' {
-        return read_text(s, at, TextType::Text).reading;
+        read_text(s, at, TextType::Text).reading
+    } else if starts_number(b) {
+        number_at(s, at).reading
+    } else {
+        literal_at(s, at)
     }
-    if starts_number(b) {
-        return number_at(s, at).reading;
-    }
-    literal_at(s, at)
 }
 
 // What is wrong with a value where an object belongs and none stands: 12, or the fault inside it.
 pub fn not_object_at(s: &[u8], at: usize) -> Reading
     ensures { result ≡ not_object_at s.now at }
 {
-    if is_opening(byte_at(s, at)) {
-        return Reading::Fault {
-            kind: 12,
-            place: at,
-        };
+    if !is_opening(byte_at(s, at)) {
+        token_at(s, at)?;
     }
-    match token_at(s, at) {
-        Reading::Whole { end: _ } => Reading::Fault {
-            kind: 12,
-            place: at,
-        },
-        Reading::Fault { kind, place } => Reading::Fault { kind, place },
-    }
+    Err(Fault {
+        kind: 12,
+        place: at,
+    })
 }

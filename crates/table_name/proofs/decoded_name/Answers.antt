@@ -1,5 +1,4 @@
 -- `table_name::decoded_name` meets its contract: the characters put down and those left are those of the name.
-use Prim.Native.Nat.{◌-◌}
 use mathlib.Core.Path.{refl, sym, ◌∙◌}
 use native.Mathlib.Omega.{arith}
 use lib.Dec.{lit<}
@@ -8,29 +7,17 @@ use Rattle.table_name.proofs.Words.{name-decoded}
 use Rattle.table_name.proofs.Spelling.{spell-start, spell-goes-on, spell-more, spell-inside, spell-whole, spell-chars, spell-length}
 use Rattle.table_name.proofs.decoded_name.Goals as goal
 
-pub returns-then-byte_at-ne34 : goal.returns-then-byte_at-ne34
-returns-then-byte_at-ne34 c = c.read_name.ensures
-
 pub overflow_add-i : goal.overflow_add-i
 overflow_add-i c = omega (arith, inside c.args.s.now _ 34 (sym c.byte_at.ensures ∙ c.if-byte_at-ne34.false) (lit< tt))
 
 pub loop-code-init : goal.loop-code-init
 loop-code-init c = spell-start _ _ _ refl (sym c.byte_at.ensures ∙ c.if-byte_at-ne34.false)
 
-pub returns-then-n-ge32 : goal.returns-then-n-ge32
-returns-then-n-ge32 c = c.read_name-then-n-ge32.ensures
-
-pub returns-then-code-ge128 : goal.returns-then-code-ge128
-returns-then-code-ge128 c = c.read_name-then-code-ge128.ensures
-
 pub loop-code-smaller : goal.loop-code-smaller
 loop-code-smaller c = omega (arith, spell-goes-on _ _ _ _ _ c.loop-code.invariant _ _ (sym c.step_at.ensures ∙ c.in-Char.is))
 
 pub loop-code-preserved : goal.loop-code-preserved
 loop-code-preserved c = spell-more _ _ _ _ _ c.loop-code.invariant _ _ (sym c.step_at.ensures ∙ c.in-Char.is) (omega arith)
-
-pub returns-then-n-eq0 : goal.returns-then-n-eq0
-returns-then-n-eq0 c = c.read_name-then-n-eq0.ensures
 
 pub slice_bounds-word-end : goal.slice_bounds-word-end
 slice_bounds-word-end c = omega (arith, c.loop-code.invariant.fits, c.loop-code.invariant.size)
@@ -46,6 +33,3 @@ overflow_add-i-in-Close c = omega (arith, spell-inside _ _ _ _ _ c.loop-code.inv
 
 pub returns-in-Close : goal.returns-in-Close
 returns-in-Close c = name-decoded _ _ _ _ _ _ _ _ c.known.ensures (spell-whole _ _ _ _ _ c.loop-code.invariant (sym c.step_at.ensures ∙ c.in-Close.is)) _ (spell-chars _ _ _ _ _ c.loop-code.invariant (sym c.step_at.ensures ∙ c.in-Close.is)) c.word_index-index.ensures
-
-pub returns-in-Bad : goal.returns-in-Bad
-returns-in-Bad c = c.read_name-in-Bad.ensures

@@ -1,7 +1,6 @@
 -- `table_name::decoded_name` meets its contract: the characters put down and those left are those of the name.
 use Prim.Native.Nat.{◌-◌}
 use lib.ListN.{length}
-use lib.Dec.{lit<}
 use Rattle.table_name.proofs.Spelling.{Spelled}
 use Rattle.table_name.proofs.decoded_name.Given as goal
 

@@ -1,13 +1,10 @@
 -- `table_name::index_of` meets its contract: what is left of the search at the loop's head answers as the whole does.
 use mathlib.Core.Path.{◌≡◌}
-use Prim.Native.Nat.{◌+◌, ◌-◌, ◌≤◌}
+use Prim.Native.Nat.{◌+◌, ◌-◌}
 use Rattle.json_chars.specs.Chars.{chars_at}
 use Rattle.table_rows.specs.Rows.{fields_from}
 use Rattle.table_name.specs.Name.{index_of}
 use Rattle.table_name.proofs.index_of.Given as goal
 
 abbrev pub invariant-loop-k : goal.invariant-loop-k
-invariant-loop-k l = (l.k ≤ l.count) × (index_of (chars_at l.s l.at) (fields_from l.rows l.names l.count 0) ≡ l.k + index_of (chars_at l.s l.at) (fields_from l.rows l.names (l.count - l.k) l.k))
-
-abbrev pub decreases-loop-k : goal.decreases-loop-k
-decreases-loop-k l = l.count - l.k
+invariant-loop-k l = index_of (chars_at l.s l.at) (fields_from l.rows l.names l.count 0) ≡ l.k + index_of (chars_at l.s l.at) (fields_from l.rows l.names (l.count - l.k) l.k)

@@ -1,5 +1,4 @@
 -- `table_name::same_eights` meets its contract: the eights passed are equal, and the last eight decide it.
-use Prim.Native.Nat.{◌-◌}
 use mathlib.Core.Path.{sym, ◌∙◌}
 use native.Mathlib.Omega.{arith}
 use native.Mathlib.Nat.{not-suc-le-zero}

@@ -10,5 +10,5 @@ few records count p q = mul-le-mul {m₂ = 46} p (omega arith)
 pub overflow_mul-n-2 : goal.overflow_mul-n-2
 overflow_mul-n-2 c = omega (arith, few _ _ c.if-records-gt4096.false c.if-count-gt23.false)
 
-pub returns : goal.returns
-returns c = omega (arith, few _ _ c.if-records-gt4096.false c.if-count-gt23.false)
+pub returns-else-most-n : goal.returns-else-most-n
+returns-else-most-n c = omega (arith, few _ _ c.if-records-gt4096.false c.if-count-gt23.false)

@@ -4,8 +4,8 @@ use native.Mathlib.Omega.{arith}
 use lib.Seq.{length-take-le}
 use Rattle.table_probe.proofs.next_answer.Goals as goal
 
-pub slice_bounds-fill-end-2 : goal.slice_bounds-fill-end-2
-slice_bounds-fill-end-2 g c = sym (length-take-le _ _ (omega arith))
+pub slice_bounds-fill-end-else-buf-n : goal.slice_bounds-fill-end-else-buf-n
+slice_bounds-fill-end-else-buf-n g c = sym (length-take-le _ _ (omega arith))
 
 pub slice_bounds-answer_of-end-2 : goal.slice_bounds-answer_of-end-2
 slice_bounds-answer_of-end-2 g c = sym (length-take-le _ _ (omega arith))
