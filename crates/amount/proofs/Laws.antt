@@ -44,10 +44,6 @@ far-too-large negative c p15 h = rw (lt-leb (p15 + 4) 30 (omega arith), and-fals
 pub amount-near : (x : Integer) → nat_abs (amount_of x) < 9223372036854775808
 amount-near x = omega (arith, amount-of-within x)
 
-pub over-largest : (negative : Bool) (size : ℕ) → largest_amount < size → pos 0 ≡ amount_of (Is negative size)
-unfolding amount_of
-over-largest negative size h = rw (lt-leb size largest_amount h)
-
 pub at-most-largest : (negative : Bool) (size : ℕ) → size ≤ largest_amount → amount_of (Is negative size) ≡ signed negative size
 unfolding amount_of
 at-most-largest negative size h = rw (le-leb size largest_amount h)

@@ -1,14 +1,14 @@
 // An amount in a record: dollars or hours in ten-thousandths, exact.
-#![tactic(auto)]
+#![tactic(auto, unfolding(crate::specs::Amount::ten_thousandths, crate::specs::Amount::is_amount, crate::specs::Amount::amount_of, crate::specs::Amount::ten_thousandths_in, crate::specs::Amount::is_amount_in, crate::specs::Amount::amount_in, json_number::specs::Number::integer_of))]
 
 ghost use Rattle.std.specs.Prelude.{◌≡◌, ◌+◌, ◌≤◌};
 ghost use Rattle.json_number.specs.Number.{whole_of};
 ghost use Rattle.json_number.specs.declared.Integer.TheVariants.{Is};
-ghost use Rattle.rule_cells.specs.Cells.{table};
+ghost use Rattle.rule_cells.specs.Seen.{cells_seen};
 ghost use Rattle.amount.specs.Amount.{ten_thousandths, largest_amount, is_amount, signed, amount_of, ten_thousandths_in, is_amount_in, amount_in};
 
 use json_number::{Integer, Value, integer_of, number_at};
-use rule_cells::{is_given, start_of};
+use rule_cells::Table;
 
 // 100,000,000 in ten-thousandths.
 const LARGEST_AMOUNT: u64 = 1_000_000_000_000;
@@ -39,16 +39,17 @@ fn ten_thousandths(v: Value) -> Integer
 }
 
 // The number in field k of record r, counted in ten-thousandths; a null is 0.
-fn count_in(s: &[u8], cells: &[u32], width: usize, r: usize, k: usize) -> Integer
-    ensures { result ≡ ten_thousandths_in (table s.now cells.now width 0) r k }
+fn count_in(table: &Table, r: usize, k: usize) -> Integer
+    ensures { result ≡ ten_thousandths_in (cells_seen table.now) r k }
 {
-    if is_given(cells, width, r, k) {
-        let value = number_at(s, start_of(cells, width, r, k)).value;
-        return ten_thousandths(value);
-    }
-    Integer::Is {
-        negative: false,
-        magnitude: 0,
+    if table.is_given(r, k) {
+        let value = number_at(table.text, table.start_of(r, k)).value;
+        ten_thousandths(value)
+    } else {
+        Integer::Is {
+            negative: false,
+            magnitude: 0,
+        }
     }
 }
 
@@ -56,12 +57,8 @@ fn is_amount(x: Integer) -> bool
     ensures { result ≡ is_amount x }
 {
     match x {
-        Integer::Is {
-            negative: _,
-            magnitude,
-        } => magnitude <= LARGEST_AMOUNT,
-        Integer::Fraction => false,
-        Integer::TooLarge => false,
+        Integer::Is { magnitude, .. } => magnitude <= LARGEST_AMOUNT,
+        Integer::Fraction | Integer::TooLarge => false,
     }
 }
 
@@ -70,9 +67,10 @@ fn signed(negative: bool, size: u64) -> i64
     ensures { result ≡ signed negative size }
 {
     if negative {
-        return 0 - (size as i64);
+        -(size as i64)
+    } else {
+        size as i64
     }
-    size as i64
 }
 
 // A number of ten-thousandths, where it is an amount.
@@ -80,9 +78,10 @@ fn limited(negative: bool, size: u64) -> i64
     ensures { result ≡ amount_of (Is negative size) }
 {
     if LARGEST_AMOUNT < size {
-        return 0;
+        0
+    } else {
+        signed(negative, size)
     }
-    signed(negative, size)
 }
 
 fn amount_of(x: Integer) -> i64
@@ -93,21 +92,20 @@ fn amount_of(x: Integer) -> i64
             negative,
             magnitude,
         } => limited(negative, magnitude),
-        Integer::Fraction => 0,
-        Integer::TooLarge => 0,
+        Integer::Fraction | Integer::TooLarge => 0,
     }
 }
 
 // Whether field k of record r holds an amount or nothing.
-pub fn is_amount_in(s: &[u8], cells: &[u32], width: usize, r: usize, k: usize) -> bool
-    ensures { result ≡ is_amount_in (table s.now cells.now width 0) r k }
+pub fn is_amount_in(table: &Table, r: usize, k: usize) -> bool
+    ensures { result ≡ is_amount_in (cells_seen table.now) r k }
 {
-    is_amount(count_in(s, cells, width, r, k))
+    is_amount(count_in(table, r, k))
 }
 
 // The amount in field k of record r, in ten-thousandths; 0 for null, and for what is no amount.
-pub fn amount_in(s: &[u8], cells: &[u32], width: usize, r: usize, k: usize) -> i64
-    ensures { result ≡ amount_in (table s.now cells.now width 0) r k }
+pub fn amount_in(table: &Table, r: usize, k: usize) -> i64
+    ensures { result ≡ amount_in (cells_seen table.now) r k }
 {
-    amount_of(count_in(s, cells, width, r, k))
+    amount_of(count_in(table, r, k))
 }

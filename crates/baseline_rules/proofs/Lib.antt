@@ -1,4 +1,3 @@
 pub mod Opens
 pub mod Facts
-pub mod Lists
 pub mod Cases

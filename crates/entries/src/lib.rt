@@ -1,17 +1,18 @@
 // The entries of a table's records, by the sums of their keys, written as plain numbers into a lent list
 // behind the table's cells.
-#![tactic(auto)]
+#![tactic(auto, unfolding(rule_cells::specs::Cells::cell_of, table_rows::specs::Rows::cell_at, crate::specs::Entries::wrapped, crate::specs::Entries::sum_alone, crate::specs::Flat::fits_at, crate::specs::Flat::listed_in))]
 
-ghost use Rattle.std.specs.Prelude.{◌≡◌, ◌+◌, ◌-◌, ◌*◌, ◌<◌, ◌≤◌, true, map, length};
+ghost use Rattle.std.specs.Prelude.{◌≡◌, ◌+◌, ◌*◌, ◌<◌, ◌≤◌, true, map, length};
 ghost use Rattle.bundle_bytes.specs.Pieces.{written};
 ghost use Rattle.parts.specs.Part.{part_of};
 ghost use Rattle.rule_cells.specs.Cells.{table, cell_of};
 ghost use Rattle.key_order.specs.Order.{are_fit};
-ghost use Rattle.entries.specs.Entries.{wrapped, entry_of, sum_alone, entries_of};
+ghost use Rattle.entries.specs.Entries.{entry_of, sum_alone, entries_of};
 ghost use Rattle.entries.specs.Flat.{entry_numbers, flat_of, listed_in};
 
 use key_order::key_order;
 use key_sum::key_sum;
+use rule_cells::Table;
 use rule_key::Key;
 use table_rows::cell_at;
 
@@ -29,31 +30,11 @@ pub struct Entry {
 fn cell_in(cells: &[u32], width: usize, r: usize, j: usize) -> u32
     ensures { result ≡ cell_of cells.now width r j }
 {
-    if 4096 < r {
-        return 0;
+    if r <= 4096 && width <= 128 && j <= 128 {
+        cell_at(cells, width, r, j)
+    } else {
+        0
     }
-    if 128 < width {
-        return 0;
-    }
-    if 128 < j {
-        return 0;
-    }
-    cell_at(cells, width, r, j)
-}
-
-fn less(a: u32, b: u32) -> u32
-    ensures { result ≡ a - b }
-{
-    if a < b {
-        return 0;
-    }
-    a - b
-}
-
-fn next(x: u32) -> u32
-    ensures { result ≡ wrapped (x + 1) }
-{
-    std::num::wrapping_add_u32(x, 1)
 }
 
 // The entry of record r of a table, by its field k.
@@ -65,10 +46,10 @@ fn entry_of(s: &[u8], cells: &[u32], width: usize, k: usize, r: u32) -> Entry
     let end = cell_in(cells, width, r as usize, 2 * k + 1);
     let sum = key_sum(s, start as usize);
     Entry {
-        start: next(start),
-        length: less(less(end, start), 2),
+        start: start.wrapping_add(1),
+        length: end.saturating_sub(start).saturating_sub(2),
         sum,
-        record: next(r),
+        record: r.wrapping_add(1),
     }
 }
 
@@ -97,13 +78,9 @@ fn put_entries(
     requires { (from ≤ to) × (to ≤ at) × (at + 4 * length order.now ≤ length work.old) × (k < 64) }
     ensures { work.new ≡ written work.old at (flat_of (map (entry_of (table s.now (part_of work.old from to) width 0) k) order.now)) }
 {
-    let mut i = 0;
-    let mut place = at;
-    while i < order.len() {
-        let e = entry_of(s, &work[from..to], width, k, order[i]);
-        put_entry(work, place, e);
-        i += 1;
-        place += 4;
+    for (i, r) in order.iter().enumerate() {
+        let e = entry_of(s, &work[from..to], width, k, *r);
+        put_entry(work, at + 4 * i, e);
     }
 }
 
@@ -138,7 +115,13 @@ fn list_ordered(
     ensures { work.new ≡ written work.old at (flat_of (entries_of (table s.now (part_of work.old from to) width 0) k (length order.old))) }
 {
     let key = sum_alone(k);
-    key_order(s, &work[from..to], width, key, sums, order, scratch);
+    let records = Table {
+        text: s,
+        cells: &work[from..to],
+        width,
+        records: order.len(),
+    };
+    key_order(&records, key, sums, order, scratch);
     put_entries(s, work, from, to, width, k, order, at);
 }
 
@@ -175,7 +158,8 @@ fn list_records(
 
 // Writes the entries of the first n records of the table whose cells stand in `work` from one place up
 // to another, by field k, and answers how many these are. Where there is no room for 4,096 of them
-// from the place behind the cells, nothing is written.
+// from the place behind the cells, nothing is written. The parts of the table stand by themselves: its cells
+// are in the workspace that the entries are written into, of which no `Table` can hold a part (fixed memory).
 pub fn list_table(
     s: &[u8],
     work: &mut [u32],
@@ -189,24 +173,16 @@ pub fn list_table(
     ensures value { result ≡ length (listed_in s.now work.old from to width k n at) }
     ensures work_after { work.new ≡ written work.old at (flat_of (listed_in s.now work.old from to width k n at)) }
 {
-    if to < from {
-        return 0;
+    if from <= to
+        && to <= at
+        && 16384 <= work.len()
+        && at <= work.len() - 16384
+        && k < 64
+        && n <= 4096
+    {
+        list_records(s, work, from, to, width, k, n, at);
+        n
+    } else {
+        0
     }
-    if at < to {
-        return 0;
-    }
-    if work.len() < 16384 {
-        return 0;
-    }
-    if work.len() - 16384 < at {
-        return 0;
-    }
-    if 64 <= k {
-        return 0;
-    }
-    if 4096 < n {
-        return 0;
-    }
-    list_records(s, work, from, to, width, k, n, at);
-    n
 }

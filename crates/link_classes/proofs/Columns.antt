@@ -26,16 +26,9 @@ module _ (s : List ℕ) (at : ℕ) (t : Table) (sums order : List ℕ) (l : Look
   found_here : found ≡ true → is_found t by_predecessor sums order (chars_at s at) ≡ true
   found_here e = same-lookup ∙ e
 
-  not-here : found ≡ false → is_found t by_predecessor sums order (chars_at s at) ≡ false
-  not-here e = same-lookup ∙ e
-
   pub place-told : found ≡ true → (sum r : ℕ) → sum ≡ key_sum s at → r ≡ searched (stands_before t l sums sum (chars_at s at)) order → r ≡ class_in t sums order (chars_at s at)
   unfolding class_in key_place key_sum
   place-told e sum r a b = b ∙ rw (found_here e, a, l-is)
-
-  pub none_told : found ≡ false → length order ≡ class_in t sums order (chars_at s at)
-  unfolding class_in
-  none_told e = rw (not-here e)
 
 -- ---- lists that were filled with the order
 module _ (t : Table) (k : ℕ) (sums order scratch : List ℕ) {sums' order' : List ℕ} {key : Key} {l : Lookup} (fit : are_fit sums order scratch ≡ true) (l-is : l ≡ by_predecessor) (key-is : key ≡ key_of l)
@@ -49,17 +42,6 @@ module _ (t : Table) (k : ℕ) (sums order scratch : List ℕ) {sums' order' : L
 
 -- ---- each way through
 module _ (t : Table) (from to : List ℕ) where
-  pub too_many : 4096 < length from → (false ≡ are_columns from to) × (from ≡ column_after t predecessor_id (are_columns from to) from) × (to ≡ column_after t successor_id (are_columns from to) to)
-  unfolding are_columns column_after
-  too_many h = (rw (lt-leb (length from) 4096 h), rw (lt-leb (length from) 4096 h), rw (lt-leb (length from) 4096 h))
-
-  pub unequal : length from ≤ 4096 → (length to ≡ length from → ⊥) → (false ≡ are_columns from to) × (from ≡ column_after t predecessor_id (are_columns from to) from) × (to ≡ column_after t successor_id (are_columns from to) to)
-  unfolding are_columns column_after
-  unequal h d =
-      let e = le-leb (length from) 4096 h in
-      let f = ne_eqb (length to) (length from) d in
-      (rw (e, f), rw (e, f), rw (e, f))
-
   pub columns-filled : (m : ℕ) (from' to' : List ℕ) → length from ≤ 4096 → length to ≡ length from → m ≡ length from
       → from' ≡ list_of (λ (r : ℕ). class_in t (sums_of t predecessor_id m) (in_key_order t (key_of by_predecessor) m) (text_of t r predecessor_id)) (length from)
       → to' ≡ list_of (λ (r : ℕ). class_in t (sums_of t predecessor_id m) (in_key_order t (key_of by_predecessor) m) (text_of t r successor_id)) (length to)

@@ -30,25 +30,26 @@ pub climb-starts : (order : ℕ → ℕ → Compared) (n : ℕ) → Climbed orde
 unfolding ascending first_that
 climb-starts order n = rw sub-zero
 
-module _ (order : ℕ → ℕ → Compared) (n i : ℕ) (w : Climbed order n i) where
-  module _ (l : i + 1 < n) (r : Compared) (is : r ≡ order i (i + 1)) where
+module _ (order : ℕ → ℕ → Compared) (n i j : ℕ) (next : j ≡ i + 1) (w : Climbed order n i) where
+  module _ (l : j < n) (r : Compared) (is : r ≡ order i j) where
     here : (a : Compared) → r ≡ a → no_rise order i ≡ is_not_less a
     unfolding no_rise
-    here a e = ap is_not_less (sym is ∙ e)
+    here a e = rw (← next) (ap is_not_less (sym is ∙ e))
 
-    pub climb-goes-on : r ≡ Less → Climbed order n (i + 1)
+    pub climb-goes-on : r ≡ Less → Climbed order n j
     unfolding is_not_less
-    climb-goes-on e = none-goes-on _ (no_rise order) (n - 1) i w (omega arith) (here Less e)
+    climb-goes-on e = rw next (none-goes-on _ (no_rise order) (n - 1) i w (omega arith) (here Less e))
 
-    pub same-no-rise : r ≡ Same → false ≡ ascending order n
+    pub falls-here : (r ≡ Less → ⊥) → false ≡ ascending order n
     unfolding is_not_less
-    same-no-rise e = one-hits _ (no_rise order) (n - 1) i w (omega arith) (here Same e)
+    falls-here h = go r refl
+      where
+        go : (a : Compared) → r ≡ a → false ≡ ascending order n
+        go Less e = absurd (h e)
+        go Same e = one-hits _ (no_rise order) (n - 1) i w (omega arith) (here Same e)
+        go More e = one-hits _ (no_rise order) (n - 1) i w (omega arith) (here More e)
 
-    pub more-no-rise : r ≡ More → false ≡ ascending order n
-    unfolding is_not_less
-    more-no-rise e = one-hits _ (no_rise order) (n - 1) i w (omega arith) (here More e)
-
-  pub climb-ends : n ≤ i + 1 → true ≡ ascending order n
+  pub climb-ends : n ≤ j → true ≡ ascending order n
   climb-ends l = none-ends _ (no_rise order) (n - 1) i w (omega arith)
 
 -- ---- where each record is less than the next, it is less than every later one

@@ -48,28 +48,28 @@ module _ (order : ℕ → ℕ → Compared) (same : ℕ → ℕ → Bool) (whole
   abbrev pub GroupsLeft : ℕ → ℕ → Type 0
   GroupsLeft from i = whole ≡ grouped_from order same (n - 1 - i) from i
 
-  module _ (from i : ℕ) (w : GroupsLeft from i) where
-    module _ (l : i + 1 < n) where
+  module _ (from i j : ℕ) (next : j ≡ i + 1) (w : GroupsLeft from i) where
+    module _ (l : j < n) where
       left : n - 1 - i ≡ suc (n - 1 - (i + 1))
       left = omega arith
 
-      pub group-starts : order i (i + 1) ≡ Less → GroupsLeft (i + 1) (i + 1)
+      pub group-starts : order i j ≡ Less → GroupsLeft j j
       unfolding grouped_from
-      group-starts e = w ∙ rw (left, e, grouped_from)
+      group-starts e = let here = rw next at e in rw next (w ∙ rw (left, here, grouped_from))
 
-      pub group-goes-on : order i (i + 1) ≡ Same → apart same from (i + 1) ≡ true → GroupsLeft from (i + 1)
+      pub group-goes-on : order i j ≡ Same → apart same from j ≡ true → GroupsLeft from j
       unfolding grouped_from
-      group-goes-on e f = w ∙ rw (left, e, grouped_from, f)
+      group-goes-on e f = let here = rw next at e in let alone = rw next at f in rw next (w ∙ rw (left, here, grouped_from, alone))
 
-      pub group-repeats : order i (i + 1) ≡ Same → apart same from (i + 1) ≡ false → false ≡ whole
+      pub group-repeats : order i j ≡ Same → apart same from j ≡ false → false ≡ whole
       unfolding grouped_from
-      group-repeats e f = sym (w ∙ rw (left, e, grouped_from, f))
+      group-repeats e f = let here = rw next at e in let alone = rw next at f in sym (w ∙ rw (left, here, grouped_from, alone))
 
-      pub group-falls : order i (i + 1) ≡ More → false ≡ whole
+      pub group-falls : order i j ≡ More → false ≡ whole
       unfolding grouped_from
-      group-falls e = sym (w ∙ rw (left, e, grouped_from))
+      group-falls e = let here = rw next at e in sym (w ∙ rw (left, here, grouped_from))
 
-    pub groups-end : n ≤ i + 1 → true ≡ whole
+    pub groups-end : n ≤ j → true ≡ whole
     unfolding grouped_from
     groups-end l = let z : n - 1 - i ≡ 0 = omega arith in sym (w ∙ rw (z, grouped_from))
 

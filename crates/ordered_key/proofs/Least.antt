@@ -56,21 +56,6 @@ lesser-assoc (suc a) (suc b) (suc c) = go (ltb a b) refl (ltb b c) refl (ltb a c
     go false p false q true w = absurd (omega (arith, ltb-false a b p, ltb-false b c q, ltb-true a c w))
     go false p false q false w = rw (q, w)
 
--- ---- whether a record repeats another, by the tests of their sums and then their keys
-module _ (t : Table) (key : Key) (sums : List ℕ) (p r x y : ℕ) (first : x ≡ get_or sums p 0) (second : y ≡ get_or sums r 0) where
-  pub other-sum : (x ≡ y → ⊥) → 0 ≡ repeat_of (same_sum_and_key t key sums) p r
-  unfolding repeat_of same_sum_and_key
-  other-sum e = rw (← first, ← second, ne_eqb x y e)
-
-  module _ (one : x ≡ y) (same : Bool) (is : same ≡ same_key t key p r) where
-    pub same-both : same ≡ true → r + 1 ≡ repeat_of (same_sum_and_key t key sums) p r
-    unfolding repeat_of same_sum_and_key
-    same-both e = rw (← first, ← second, eq-eqb x y one, ← is, e) (add-one r)
-
-    pub other_key : same ≡ false → 0 ≡ repeat_of (same_sum_and_key t key sums) p r
-    unfolding repeat_of same_sum_and_key
-    other_key e = rw (← first, ← second, eq-eqb x y one, ← is, e)
-
 -- ---- the walk: what is left of the list at place i
 module _ (same : ℕ → ℕ → Bool) (l : List ℕ) (least i : ℕ) where
   -- the least so far and that of what is left are the least of all
@@ -86,13 +71,16 @@ module _ (same : ℕ → ℕ → Bool) (l : List ℕ) where
   unfolding least_repeat
   on-by least found next p r rest e f = rw (← e) (lesser-assoc least found (least_repeat same (r ∷ rest)) ∙ rw (← f))
 
-  pub walk-goes-on : (least found next i : ℕ) → Walked same l least i → i + 1 < length l → found ≡ repeat_of same (get_or l i 0) (get_or l (i + 1) 0) → next ≡ lesser least found → Walked same l next (i + 1)
-  walk-goes-on least found next i w h e f =
+  goes-on : (least found next i : ℕ) → Walked same l least i → i + 1 < length l → found ≡ repeat_of same (get_or l i 0) (get_or l (i + 1) 0) → next ≡ lesser least found → Walked same l next (i + 1)
+  goes-on least found next i w h e f =
       let one : drop (i + 1) l ≡ get_or l (i + 1) 0 ∷ drop (suc (i + 1)) l = drop-cons l (i + 1) 0 h in
       let two : drop i l ≡ get_or l i 0 ∷ drop (i + 1) l = drop-cons l i 0 (omega arith) ∙ rw (← add-one i) in
       w ∙ ap (λ (x : List ℕ). lesser least (least_repeat same x)) (two ∙ ap (λ (x : List ℕ). get_or l i 0 ∷ x) one)
       ∙ on-by least found next (get_or l i 0) (get_or l (i + 1) 0) (drop (suc (i + 1)) l) e f
       ∙ ap (λ (x : List ℕ). lesser next (least_repeat same x)) (sym one)
+
+  pub walk-goes-on : (least found next i j : ℕ) → j ≡ i + 1 → Walked same l least i → j < length l → found ≡ repeat_of same (get_or l i 0) (get_or l j 0) → next ≡ lesser least found → Walked same l next j
+  walk-goes-on least found next i j is w h e f = rw is (goes-on least found next i w (rw is at h) (rw is at e) f)
 
   none_left : (i : ℕ) → length l ≤ i + 1 → least_repeat same (drop i l) ≡ 0
   unfolding least_repeat

@@ -1,6 +1,9 @@
 -- A record breaks a target rule exactly if its value isn't found in the order of keys, and not where one record is seen to have it.
 -- Assumes nothing.
 use Rattle.std.proofs.Common.{◌≡◌, ℕ, zero, suc, ◌-◌, ◌*◌, ◌<◌, ◌≤◌, Bool, true, false, cond, not, ◌&&◌, eqb, ltb, leb, List, length, take, drop, sym, refl, ap, ◌∙◌, arith, length-drop, drop_of_length-le, take_all, lt-ltb, ne_eqb}
+use Rattle.std.specs.Prelude.{MatchOption}
+use Rattle.std.specs.declared.option.Option.{Option}
+use Rattle.std.specs.declared.option.Option.TheVariants.{None, Some}
 use mathlib.Core.Path.{fun_ext}
 use mathlib.Core.Bool.{and-false}
 use native.Mathlib.Nat.{sub-zero}
@@ -87,9 +90,10 @@ module _ (t : Table) (k : ℕ) (w : When) (u : Table) (m : ℕ) (places texts : 
     unfolding breaks_target text_of
     asked-breaks g h = rw (breaks_target, text_of, g, h, ← is)
 
--- a lookup decides whether its record breaks the rule
-pub decided : (x b ordered : Bool) → not x ≡ b → (x ≡ true → b ≡ false) × (x ≡ false → ordered ≡ true → b ≡ true)
-decided x b ordered q = (λ e. sym q ∙ ap not e, λ e o. sym q ∙ ap not e)
+-- what is known of a search that may find nothing, by what was known of it
+pub either : {P A B : Type 0} {Q : ℕ → Type 0} (r : Option ℕ) → MatchOption r P Q → (P → A) → ((x : ℕ) → Q x → B) → MatchOption r A (λ _. B)
+either None e f g = f e
+either (Some x) e f g = g x e
 
 -- a search from the first record on is the whole
 pub from_first : (breaks : ℕ → Bool) (n : ℕ) → first_from breaks (n - 0) 0 ≡ first_that breaks n

@@ -62,3 +62,6 @@ module _ (breaks : ℕ → Bool) (n i : ℕ) where
   search-ends l =
       let q : n - i ≡ 0 = omega arith in
       rw q
+
+-- all three, for the loop of a rule that goes over the records
+pub ruleset searching = (search-hits, search-goes-on, search-ends)

@@ -7,11 +7,10 @@ use Rattle.json_same.specs.Same.{same_as}
 use Rattle.json_same.specs.declared.Case.TheVariants.{Folded}
 use Rattle.json_number.specs.Number.{number_at, integer_of, sign_of}
 use Rattle.json_number.specs.declared.Integer.{Integer}
-use Rattle.json_number.specs.declared.Integer.TheVariants.{Is, Fraction, TooLarge}
+use Rattle.json_number.specs.declared.Integer.TheVariants.{Is}
 use Rattle.json_number.specs.declared.Sign.{Sign}
-use Rattle.json_number.specs.declared.Sign.TheVariants.{Zero, Above, Below}
-use Rattle.json_date.specs.Date.{date_of}
-use Rattle.json_date.specs.declared.Date.{Date}
+use Rattle.json_number.specs.declared.Sign.TheVariants.{Zero}
+use Rattle.json_date.specs.Date.{Date, date_of}
 
 -- a table: its bytes, its cells, how many cells a record has, and how many records there are
 pub record Table : Type 0 where

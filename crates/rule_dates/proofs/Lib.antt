@@ -1,2 +1,1 @@
 pub mod Opens
-pub mod Laws

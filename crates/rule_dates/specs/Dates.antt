@@ -1,8 +1,7 @@
 -- The rule over two Dates of a record. Document 02, order 8, mark 83: "BaselineStartDate not after BaselineFinishDate where both
 -- are given".
-use Rattle.std.specs.Prelude.{ℕ, Bool, false, cond, ◌&&◌, ltb, eqb}
-use Rattle.json_date.specs.declared.Date.{Date}
-use Rattle.json_date.specs.declared.Date.TheVariants.{Day, NoDate}
+use Rattle.std.specs.Prelude.{ℕ, Bool, false, Some, None, cond, ◌&&◌, ltb, eqb}
+use Rattle.json_date.specs.Date.{Date}
 use Rattle.rule_cells.specs.Cells.{Table, table, is_given, date_in, first_that}
 
 -- day d of month m of year y is later than day e of month n of year z: by the year, then by the month, then by the day
@@ -10,9 +9,9 @@ unfoldable pub is_later : ℕ → ℕ → ℕ → ℕ → ℕ → ℕ → Bool
 is_later y m d z n e = cond (eqb y z) (cond (eqb m n) (ltb e d) (ltb n m)) (ltb z y)
 
 unfoldable pub is_after : Date → Date → Bool
-is_after (Day y m d) (Day z n e) = is_later y m d z n e
-is_after (Day y m d) NoDate = false
-is_after NoDate other = false
+is_after (Some a) (Some b) = is_later a.year a.month a.day b.year b.month b.day
+is_after (Some a) None = false
+is_after None other = false
 
 -- record r breaks the rule: equal Dates hold, and so does a null
 unfoldable pub breaks_order : Table → ℕ → ℕ → ℕ → Bool

@@ -36,6 +36,9 @@ module _ (test : ℕ → Bool) (to k : ℕ) where
       let q : to - k ≡ 0 = omega arith in
       rw q
 
+-- all three, for the loop over a run of fields
+pub ruleset running = (field-hits, field-goes-on, field-ends)
+
 -- ---- what the searches come to
 told : (b : Bool) → (b ≡ true) ⊎ (b ≡ false)
 told true = inl refl

@@ -12,8 +12,8 @@ use lib.Dec.{eqb}
 use Rattle.json_number.specs.Number.{same_sign}
 use Rattle.json_number.specs.declared.Integer.{Integer}
 use Rattle.json_number.specs.declared.Integer.TheVariants.{Is, Fraction, TooLarge}
-use Rattle.json_date.specs.declared.Date.{Date}
-use Rattle.json_date.specs.declared.Date.TheVariants.{Day, NoDate}
+use Rattle.std.specs.Prelude.{Some, None}
+use Rattle.json_date.specs.Date.{Date}
 use Rattle.json_same.specs.Same.{same_as}
 use Rattle.json_same.specs.declared.Case.TheVariants.{Folded}
 use Rattle.json_same.proofs.Laws.{same-sym}
@@ -53,10 +53,10 @@ same-integer-sym TooLarge TooLarge = refl
 
 pub same-date-sym : (a b : Date) → same_date a b ≡ same_date b a
 unfolding same_date
-same-date-sym (Day y m d) (Day z n e) = cc (swap y z, swap m n, swap d e)
-same-date-sym (Day y m d) NoDate = refl
-same-date-sym NoDate (Day z n e) = refl
-same-date-sym NoDate NoDate = refl
+same-date-sym (Some a) (Some b) = cc (swap a.year b.year, swap a.month b.month, swap a.day b.day)
+same-date-sym (Some a) None = refl
+same-date-sym None (Some b) = refl
+same-date-sym None None = refl
 
 same-text-sym : (xs ys : List ℕ) → same_as Folded xs ys ≡ same_as Folded ys xs
 same-text-sym xs ys = both_ways (same_as Folded xs ys) (same_as Folded ys xs) (same-sym Folded xs ys) (same-sym Folded ys xs)

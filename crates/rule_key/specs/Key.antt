@@ -1,10 +1,9 @@
 -- Marks 20 to 35. Document 01: "Broken at a record whose key equals an earlier one's. A null Ordinal is 0."
-use Rattle.std.specs.Prelude.{ℕ, ◌-◌, Bool, true, false, cond, ◌&&◌, ltb, eqb}
+use Rattle.std.specs.Prelude.{ℕ, ◌-◌, Bool, true, false, Some, None, cond, ◌&&◌, ltb, eqb}
 use Rattle.json_number.specs.Number.{same_sign}
 use Rattle.json_number.specs.declared.Integer.{Integer}
 use Rattle.json_number.specs.declared.Integer.TheVariants.{Is, Fraction, TooLarge}
-use Rattle.json_date.specs.declared.Date.{Date}
-use Rattle.json_date.specs.declared.Date.TheVariants.{Day, NoDate}
+use Rattle.json_date.specs.Date.{Date}
 use Rattle.rule_cells.specs.Cells.{Table, same_text, integer_in, date_in, first_that}
 use Rattle.rule_key.specs.declared.Key.{Key}
 use Rattle.rule_key.specs.declared.KeyBreak.{KeyBreak}
@@ -20,9 +19,9 @@ same_integer TooLarge b = false
 
 -- one year, month and day; what is no Date equals nothing, and stands in no readable table
 unfoldable pub same_date : Date → Date → Bool
-same_date (Day y m d) (Day z n e) = eqb y z && (eqb m n && eqb d e)
-same_date (Day y m d) NoDate = false
-same_date NoDate b = false
+same_date (Some a) (Some b) = eqb a.year b.year && (eqb a.month b.month && eqb a.day b.day)
+same_date (Some a) None = false
+same_date None b = false
 
 -- field k of records i and j, by its kind: 1 an ID, 2 an Integer, a null being 0, 3 a Date; any other is no field of the key
 unfoldable pub same_field : Table → ℕ → ℕ → ℕ → ℕ → Bool

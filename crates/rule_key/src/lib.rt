@@ -1,17 +1,18 @@
 // The rule "primary key": no record of a table has the key of an earlier one.
-#![tactic(auto)]
+#![tactic(auto, using(crate::proofs::Compare::comparing, rule_cells::proofs::Laws::searching), unfolding(crate::specs::Key::same_integer, crate::specs::Key::same_date, crate::specs::Key::same_field, crate::specs::Key::same_key, rule_cells::specs::Cells::first_that))]
 
 ghost use Rattle.std.specs.Prelude.{◌≡◌, ◌&&◌, eqb};
 ghost use Rattle.json_number.specs.Number.{same_sign};
-ghost use Rattle.rule_cells.specs.Cells.{table};
+ghost use Rattle.rule_cells.specs.Seen.{seen, cells_seen};
 ghost use Rattle.rule_key.specs.Key.{same_integer, same_date, same_field, same_key, earliest, key_rule};
 
-use json_date::Date;
+use json_date::Day;
 use json_number::Integer;
-use rule_cells::{date_in, integer_in, same_in};
+use rule_cells::Table;
 
 // The fields of a key, each with its kind: 1 an ID, 2 an Integer, 3 a Date, and any other number
 // where the key has no such field.
+// The kinds stay numbers: same_field of specs, which may not change, tells fields by them.
 #[derive(Clone, Copy)]
 pub struct Key {
     pub a: usize,
@@ -24,151 +25,88 @@ pub struct Key {
 
 // The first record that has the key of an earlier one, and the earliest that has it, both counted
 // from 1; 0 and 0 where no record does.
+// It stays two numbers: key_rule of specs, which may not change, gives them, and a mark has them as its place and companion.
 #[derive(Clone, Copy)]
 pub struct KeyBreak {
     pub record: usize,
     pub same: usize,
 }
 
-// Whether two numbers have one sign and one magnitude.
-fn same_signed(m: bool, x: u64, n: bool, y: u64) -> bool
-    ensures { result ≡ (eqb x y && same_sign m n) }
-{
-    if x != y {
-        return false;
-    }
-    if m {
-        return n;
-    }
-    !n
-}
-
+// An equation of two Integers by ==: what is no Integer equals nothing here, itself neither, so none is derived.
 fn same_integer(a: Integer, b: Integer) -> bool
     ensures { result ≡ same_integer a b }
 {
-    let Integer::Is {
-        negative: m,
-        magnitude: x,
-    } = a
-    else {
-        return false;
-    };
-    let Integer::Is {
-        negative: n,
-        magnitude: y,
-    } = b
-    else {
-        return false;
-    };
-    same_signed(m, x, n, y)
+    match (a, b) {
+        (
+            Integer::Is {
+                negative: m,
+                magnitude: x,
+            },
+            Integer::Is {
+                negative: n,
+                magnitude: y,
+            },
+        ) => x == y && m == n,
+        _ => false,
+    }
 }
 
-// Whether two days are one.
-fn same_day(y: u32, m: u32, d: u32, z: u32, n: u32, e: u32) -> bool
-    ensures { result ≡ (eqb y z && (eqb m n && eqb d e)) }
-{
-    if y != z {
-        return false;
-    }
-    if m != n {
-        return false;
-    }
-    d == e
-}
-
-fn same_date(a: Date, b: Date) -> bool
+// Whether both are days, and the same one.
+fn same_date(a: Option<Day>, b: Option<Day>) -> bool
     ensures { result ≡ same_date a b }
 {
-    let Date::Day {
-        year: y,
-        month: m,
-        day: d,
-    } = a
-    else {
-        return false;
-    };
-    let Date::Day {
-        year: z,
-        month: n,
-        day: e,
-    } = b
-    else {
-        return false;
-    };
-    same_day(y, m, d, z, n, e)
+    match (a, b) {
+        (Some(a), Some(b)) => a == b,
+        _ => false,
+    }
 }
 
 // Whether field k of records i and j, of this kind, holds one value.
-fn same_field(
-    s: &[u8],
-    cells: &[u32],
-    width: usize,
-    kind: u32,
-    k: usize,
-    i: usize,
-    j: usize,
-) -> bool
-    ensures { result ≡ same_field (table s.now cells.now width 0) kind k i j }
+fn same_field(table: &Table, kind: u32, k: usize, i: usize, j: usize) -> bool
+    ensures { result ≡ same_field (cells_seen table.now) kind k i j }
 {
-    if kind == 1 {
-        return same_in(s, cells, width, i, k, s, cells, width, j, k);
+    let itself = *table;
+    match kind {
+        1 => table.same_in(i, k, &itself, j, k),
+        2 => same_integer(table.integer_in(i, k), table.integer_in(j, k)),
+        3 => same_date(table.date_in(i, k), table.date_in(j, k)),
+        _ => true,
     }
-    if kind == 2 {
-        return same_integer(
-            integer_in(s, cells, width, i, k),
-            integer_in(s, cells, width, j, k),
-        );
-    }
-    if kind == 3 {
-        return same_date(
-            date_in(s, cells, width, i, k),
-            date_in(s, cells, width, j, k),
-        );
-    }
-    true
 }
 
 // Whether records i and j have one key; the first field that differs decides.
-pub fn same_key(s: &[u8], cells: &[u32], width: usize, key: Key, i: usize, j: usize) -> bool
-    ensures { result ≡ same_key (table s.now cells.now width 0) key i j }
+pub fn same_key(table: &Table, key: Key, i: usize, j: usize) -> bool
+    ensures { result ≡ same_key (cells_seen table.now) key i j }
 {
-    if !same_field(s, cells, width, key.a_kind, key.a, i, j) {
-        return false;
-    }
-    if !same_field(s, cells, width, key.b_kind, key.b, i, j) {
-        return false;
-    }
-    same_field(s, cells, width, key.c_kind, key.c, i, j)
+    same_field(table, key.a_kind, key.a, i, j)
+        && same_field(table, key.b_kind, key.b, i, j)
+        && same_field(table, key.c_kind, key.c, i, j)
 }
 
 // The earliest record before i that has i's key, counted from 1; 0 for none.
-pub fn earliest_same(s: &[u8], cells: &[u32], width: usize, key: Key, i: usize) -> usize
-    ensures { result ≡ earliest (table s.now cells.now width 0) key i }
+pub fn earliest_same(table: &Table, key: Key, i: usize) -> usize
+    ensures { result ≡ earliest (cells_seen table.now) key i }
 {
-    let mut j = 0;
-    while j < i {
-        if same_key(s, cells, width, key, j, i) {
+    for j in 0..i {
+        if same_key(table, key, j, i) {
             return j + 1;
         }
-        j += 1;
     }
     0
 }
 
 // The first record whose key equals an earlier one's.
-pub fn key_rule(s: &[u8], cells: &[u32], width: usize, records: usize, key: Key) -> KeyBreak
-    ensures { result ≡ key_rule (table s.now cells.now width records) key }
+pub fn key_rule(table: &Table, key: Key) -> KeyBreak
+    ensures { result ≡ key_rule (seen table.now) key }
 {
-    let mut i = 0;
-    while i < records {
-        let same = earliest_same(s, cells, width, key, i);
+    for i in 0..table.records {
+        let same = earliest_same(table, key, i);
         if 0 < same {
             return KeyBreak {
                 record: i + 1,
                 same,
             };
         }
-        i += 1;
     }
     KeyBreak { record: 0, same: 0 }
 }

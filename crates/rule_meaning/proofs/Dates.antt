@@ -7,8 +7,8 @@ use mathlib.Core.Logic.{◌↔◌}
 use native.Mathlib.Omega.{arith}
 use borrow.Author.Tests.{eq-eqb, ne_eqb, lt-ltb, eqb-true, ltb-true}
 use lib.Dec.{ltb, eqb}
-use Rattle.json_date.specs.declared.Date.{Date}
-use Rattle.json_date.specs.declared.Date.TheVariants.{Day, NoDate}
+use Rattle.std.specs.Prelude.{Some, None}
+use Rattle.json_date.specs.Date.{Date, day_in}
 use Rattle.rule_cells.specs.Cells.{Table, table, is_given, date_in, text_of}
 use Rattle.rule_dates.specs.Dates.{is_later, is_after, breaks_order, dates_in_order_rule}
 use Rattle.rule_meaning.specs.Keeps.{Answers, After, LaterYear, LaterMonth, LaterDay, DatesInOrder}
@@ -22,20 +22,20 @@ after-passes (LaterYear {y} {m} {d} {z} {n} {e} l) = rw (ne_eqb y z (λ q. omega
 after-passes (LaterMonth {y} {m} {d} {n} {e} l) = rw (eq-eqb y y refl, ne_eqb m n (λ q. omega arith), lt-ltb n m l)
 after-passes (LaterDay {y} {m} {d} {e} l) = rw (eq-eqb y y refl, eq-eqb m m refl, lt-ltb e d l)
 
-later-shows : (y m d z n e : ℕ) → is_later y m d z n e ≡ true → After (Day y m d) (Day z n e)
+later-shows : (y m d z n e : ℕ) → is_later y m d z n e ≡ true → After (Some (day_in y m d)) (Some (day_in z n e))
 unfolding is_later
 later-shows y m d z n e = go (eqb y z) refl (eqb m n) refl
   where
-    go : (p : Bool) → eqb y z ≡ p → (q : Bool) → eqb m n ≡ q → cond p (cond q (ltb e d) (ltb n m)) (ltb z y) ≡ true → After (Day y m d) (Day z n e)
+    go : (p : Bool) → eqb y z ≡ p → (q : Bool) → eqb m n ≡ q → cond p (cond q (ltb e d) (ltb n m)) (ltb z y) ≡ true → After (Some (day_in y m d)) (Some (day_in z n e))
     go true f true g h = rw (← (eqb-true y z f), ← (eqb-true m n g)) (LaterDay (ltb-true e d h))
     go true f false g h = rw (← (eqb-true y z f)) (LaterMonth (ltb-true n m h))
     go false f q g h = LaterYear (ltb-true z y h)
 
 after-shows : (a b : Date) → is_after a b ≡ true → After a b
 unfolding is_after
-after-shows (Day y m d) (Day z n e) h = later-shows y m d z n e h
-after-shows (Day y m d) NoDate h = absurd (never_both h refl)
-after-shows NoDate b h = absurd (never_both h refl)
+after-shows (Some a) (Some b) h = later-shows a.year a.month a.day b.year b.month b.day h
+after-shows (Some a) None h = absurd (never_both h refl)
+after-shows None b h = absurd (never_both h refl)
 
 -- ---- Mark 83 holds exactly if no record gives both Dates with the first after the second, and else names the first that does
 pub in-order-means : (t : Table) (first second : ℕ) → Answers (DatesInOrder t first second) t.records (dates_in_order_rule t first second)

@@ -1,11 +1,10 @@
 -- What each shape of rule asks of one record, in document 01's words, and what a rule's answer says of all of them.
 -- Records are counted from 0 here; an answer counts them from 1, and is 0 where no record breaks the rule.
-use Rattle.std.specs.Prelude.{ℕ, ◌+◌, ◌≤◌, ◌<◌, ◌≡◌, true, false, ◌↔◌, ◌⊎◌, List}
+use Rattle.std.specs.Prelude.{ℕ, ◌+◌, ◌≤◌, ◌<◌, ◌≡◌, true, false, ◌↔◌, ◌⊎◌, List, Some}
 use Rattle.json_number.specs.declared.Integer.TheVariants.{Is}
 use Rattle.json_number.specs.declared.Sign.TheVariants.{Above, Below}
 use Rattle.table_rows.specs.Rows.{value_text_at}
-use Rattle.json_date.specs.declared.Date.{Date}
-use Rattle.json_date.specs.declared.Date.TheVariants.{Day}
+use Rattle.json_date.specs.Date.{Date, day_in}
 use Rattle.rule_cells.specs.Cells.{Table, is_given, same_text, is_word, integer_in, date_in, sign_in}
 use Rattle.rule_when.specs.When.{is_value, holds_when}
 use Rattle.rule_when.specs.declared.When.{When}
@@ -78,9 +77,9 @@ AllNullOrNone t from to r = NoneIsGiven t from to r ⊎ AllAreGiven t from to r
 -- ---- Two Dates
 -- one Date is after another: in a later year, in a later month of one year, or on a later day of one month
 pub data After : Date → Date → Type 0 where
-  LaterYear : {y m d z n e : ℕ} → z < y → After (Day y m d) (Day z n e)
-  LaterMonth : {y m d n e : ℕ} → n < m → After (Day y m d) (Day y n e)
-  LaterDay : {y m d e : ℕ} → e < d → After (Day y m d) (Day y m e)
+  LaterYear : {y m d z n e : ℕ} → z < y → After (Some (day_in y m d)) (Some (day_in z n e))
+  LaterMonth : {y m d n e : ℕ} → n < m → After (Some (day_in y m d)) (Some (day_in y n e))
+  LaterDay : {y m d e : ℕ} → e < d → After (Some (day_in y m d)) (Some (day_in y m e))
 
 -- document 02, order 8, mark 83: the first "not after" the second "where both are given"
 abbrev pub DatesInOrder : Table → ℕ → ℕ → ℕ → Type 0

@@ -18,32 +18,11 @@ use Rattle.json_number.specs.Alone.{one_digit}
 use Rattle.json_number.specs.declared.Value.{Value}
 use Rattle.json_number.specs.declared.Value.TheVariants.{Fits, Beyond}
 use Rattle.json_number.specs.declared.Integer.{Integer}
-use Rattle.json_number.specs.declared.Integer.TheVariants.{Is, Fraction, TooLarge}
+use Rattle.json_number.specs.declared.Integer.TheVariants.{Is, TooLarge}
 use Rattle.json_number.proofs.Alone.{digit-integer}
 use Rattle.rule_cells.specs.Cells.{Table, table, is_given, start_of, integer_in, text_of, same_text, first_from, first_that}
 use Rattle.rule_cells.proofs.Laws.{search-hits, search-goes-on, search-ends}
-use Rattle.rule_outline.specs.Outline.{
-  level_zero,
-  level_one,
-  raised,
-  level_of,
-  lower_before,
-  parent_by,
-  parents_up_to,
-  parents_have_room,
-  with_parents,
-  run_breaks,
-  level_breaks,
-  level_rule,
-  parent_shown,
-  outline_at,
-  parent_breaks,
-  parent_rule,
-  some_of,
-  is_typed,
-  parent_type_breaks,
-  parent_type_rule,
-}
+use Rattle.rule_outline.specs.Outline.{level_zero, level_one, raised, level_of, lower_before, parent_by, parents_up_to, run_breaks, level_breaks, parent_shown, outline_at, some_of, is_typed, parent_type_breaks, parent_type_rule}
 use Rattle.rule_outline.proofs.Parents.{lower-or-not, lower-hit, lower-miss, lower-through, parent-within, parents-length, parents-at}
 
 -- ---- A Level
@@ -99,14 +78,6 @@ module _ (t : Table) (r k : ℕ) where
     unfolding level_of raised
     level-above e s = rw (← is_integer, e, s)
 
-    pub level-fraction : x ≡ Fraction → 0 ≡ level_of t k r
-    unfolding level_of raised
-    level-fraction e = rw (← is_integer, e)
-
-    pub level-too-large : x ≡ TooLarge → 0 ≡ level_of t k r
-    unfolding level_of raised
-    level-too-large e = rw (← is_integer, e)
-
   -- a Level that is one digit
   pub level-digit : is_given t.cells t.width r k ≡ true → {at x : ℕ} → at ≡ start_of t.cells t.width r k → x ≡ one_digit t.bytes at → x < 10 → level_zero + x ≡ level_of t k r
   unfolding integer_in
@@ -154,12 +125,6 @@ module _ (levels : ℕ → ℕ) where
   pub above-next : (r : ℕ) {at : ℕ} → at ≡ levels r → at ≡ level_above levels (r + 1)
   unfolding level_above
   above-next r e = rw (add-one r) e
-
-module _ (s cells : List ℕ) (width n level : ℕ) where
-  -- how many records there are plays no part in a Level
-  pub level-rule-starts : level_rule (table s cells width n) level ≡ first_from (level_breaks (level_of (table s cells width 0) level)) (n - 0) 0
-  unfolding level_rule level_of integer_in first_that
-  level-rule-starts = rw (sub-zero n)
 
 -- ---- The way from parent to parent
 module _ (levels : ℕ → ℕ) (p : ℕ) (some : 0 < p) where
@@ -216,21 +181,6 @@ module _ (levels : ℕ → ℕ) (old list : List ℕ) (r : ℕ) (is_list : list 
       ∙ (set_at (parents_up_to levels r) (get_or old r 0) (drop (suc r) old) p r (parents-length levels r)
       ∙ rw (add-one r, e) (sym (append_snoc (parents_up_to levels r) (parent_by levels r) (drop (suc r) old))))
 
-module _ (s cells : List ℕ) (width n level : ℕ) (list : List ℕ) where
-  pub no-room-over : 4096 < n → (false ≡ parents_have_room n list) × (list ≡ with_parents (table s cells width n) level list)
-  unfolding with_parents parents_have_room
-  no-room-over h = (rw (lt-leb n 4096 h), rw (lt-leb n 4096 h))
-
-  pub no-room-short : n ≤ 4096 → length list < n → (false ≡ parents_have_room n list) × (list ≡ with_parents (table s cells width n) level list)
-  unfolding with_parents parents_have_room
-  no-room-short g h = (rw (le-leb n 4096 g, lt-leb n (length list) h), rw (le-leb n 4096 g, lt-leb n (length list) h))
-
-  pub all-filled : (l : List ℕ) (r : ℕ) → n ≤ 4096 → n ≤ length list → n ≤ r → r ≤ n → l ≡ parents_up_to (level_of (table s cells width 0) level) r ++ drop r list → (true ≡ parents_have_room n list) × (l ≡ with_parents (table s cells width n) level list)
-  unfolding with_parents parents_have_room level_of integer_in
-  all-filled l r g h p q e =
-      let z : r ≡ n = omega arith in
-      (rw (le-leb n 4096 g, le-leb n (length list) h), rw (le-leb n 4096 g, le-leb n (length list) h) (rw z at e))
-
 -- ---- Marks 79 and 80
 module _ (t : Table) (level : ℕ) (parents : ℕ → ℕ) (breaks : ℕ → Bool) (n r : ℕ) where
   pub outline-hits : {b : Bool} {p : ℕ} → r < n → b ≡ breaks r → b ≡ true → p ≡ parent_shown t level parents r → outline_at t level parents (first_from breaks (n - r) r) ≡ record { «record» = r + 1; parent = p }
@@ -251,25 +201,19 @@ module _ (s cells : List ℕ) (width n level task : ℕ) (parents : ℕ → ℕ)
   outline-records zero = refl
   outline-records (suc r) = refl
 
-  pub parent-rule-starts : (parent : ℕ) → parent_rule (table s cells width n) level task parent parents ≡ outline_at (table s cells width 0) level parents (first_from (parent_breaks (table s cells width 0) level task parent parents) (n - 0) 0)
-  unfolding parent_rule first_that parent_breaks same_text text_of level_of integer_in
-  parent-rule-starts parent = outline-records _ ∙ rw (sub-zero n)
-
   pub parent-type-rule-starts : (u : Table) (id type : ℕ) (word : List ℕ) → parent_type_rule (table s cells width n) level task parents u id type word ≡ outline_at (table s cells width 0) level parents (first_from (parent_type_breaks (table s cells width 0) level task parents u id type word) (n - 0) 0)
   unfolding parent_type_rule first_that parent_type_breaks is_typed same_text text_of level_of integer_in
   parent-type-rule-starts u id type word = outline-records _ ∙ rw (sub-zero n)
 
 -- ---- Some record of a table
+-- where a record does, some record does
 module _ (holds : ℕ → Bool) (n q : ℕ) where
-  pub some-starts : some_of holds n ≡ ltb 0 (first_from holds (n - 0) 0)
-  unfolding some_of first_that
-  some-starts = rw (sub-zero n)
+  pub some-hits : q < n → first_from holds (n - q) q ≡ first_that holds n → holds q ≡ true → some_of holds n ≡ true
+  unfolding some_of
+  some-hits l v h = rw (sym v, search-hits holds n q l h) (lt-ltb 0 (q + 1) (omega arith))
 
-  pub some-hits : {b : Bool} → q < n → b ≡ holds q → b ≡ true → ltb 0 (first_from holds (n - q) q) ≡ true
-  some-hits l e h = rw (search-hits holds n q l (sym e ∙ h)) (lt-ltb 0 (q + 1) (omega arith))
+  pub some-ends : n ≤ q → first_from holds (n - q) q ≡ first_that holds n → some_of holds n ≡ false
+  unfolding some_of
+  some-ends l v = rw (sym v, search-ends holds n q l)
 
-  pub some-goes-on : {b : Bool} → q < n → b ≡ holds q → b ≡ false → ltb 0 (first_from holds (n - q) q) ≡ ltb 0 (first_from holds (n - (q + 1)) (q + 1))
-  some-goes-on l e h = ap (ltb 0) (search-goes-on holds n q l (sym e ∙ h))
-
-  pub some-ends : n ≤ q → ltb 0 (first_from holds (n - q) q) ≡ false
-  some-ends l = rw (search-ends holds n q l)
+pub ruleset outlining = (some-hits, some-ends)

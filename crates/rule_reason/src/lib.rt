@@ -6,6 +6,7 @@ ghost use Rattle.rule_cells.specs.Cells.{table};
 ghost use Rattle.rule_shape.specs.Rule.{rule_from};
 ghost use Rattle.rule_reason.specs.Reason.{deciding_field, searched_in};
 
+use rule_cells::Table;
 use rule_hours::{first_below, first_given, first_null};
 use rule_shape::{Rule, rule_at};
 
@@ -28,6 +29,12 @@ pub fn deciding_field(
 ) -> usize
     ensures { result ≡ deciding_field (rule_from rows.now i) (table s.now cells.now width 0) r }
 {
+    let table = Table {
+        text: s,
+        cells,
+        width,
+        records: 0,
+    };
     let rule = rule_at(rows, i);
     match rule {
         Rule::KeyOf { key, .. } => key.a,
@@ -35,13 +42,13 @@ pub fn deciding_field(
         Rule::NullUnless { field, .. } => field,
         Rule::GivenIf { field, .. } => field,
         Rule::GivenUnless { field, .. } => field,
-        Rule::NoneBelow { from, to, .. } => first_below(s, cells, width, r, from, to),
+        Rule::NoneBelow { from, to, .. } => first_below(&table, r, from, to),
         Rule::SomeAbove { from, .. } => from,
-        Rule::Together { from, to, .. } => first_null(cells, width, r, from, to),
+        Rule::Together { from, to, .. } => first_null(&table, r, from, to),
         Rule::LevelRun { level, .. } => level,
         Rule::ParentGiven { parent, .. } => parent,
-        Rule::AllGiven { from, to, .. } => first_null(cells, width, r, from, to),
-        Rule::NoneGiven { from, to, .. } => first_given(cells, width, r, from, to),
+        Rule::AllGiven { from, to, .. } => first_null(&table, r, from, to),
+        Rule::NoneGiven { from, to, .. } => first_given(&table, r, from, to),
         Rule::InOrder { first, .. } => first,
         Rule::TreeLevels { level, .. } => level,
         Rule::TreeParent { parent, .. } => parent,

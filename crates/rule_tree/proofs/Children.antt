@@ -69,3 +69,5 @@ module _ (levels : ℕ → ℕ) (n q : ℕ) where
       lower l c =
           let z : levels (suc q) ≤ levels q = rw (e, f, add-one q) at l in
           omega arith
+
+pub ruleset having = (last-has-none, next-tells)

@@ -33,6 +33,9 @@ module _ (t : Table) (r k : ℕ) (places texts : List ℕ) (v n i : ℕ) where
       let q : n - i ≡ 0 = omega arith in
       rw q
 
+-- all three, for the loop over an enumeration's values
+pub ruleset choosing = (one-hits, one-goes-on, one-ends)
+
 module _ (t : Table) (r k : ℕ) (places texts : List ℕ) where
   -- one of the values behind the first is one of them all
   one-behind : (n v : ℕ) → is_one_of t r k places texts n (suc v) ≡ true → is_one_of t r k places texts (suc n) v ≡ true

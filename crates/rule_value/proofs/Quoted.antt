@@ -32,3 +32,5 @@ module _ (s cells : List ℕ) (width r k at : ℕ) (places texts : List ℕ) (fi
   quoted-one is_at plain l h =
       let word = value_text_at places texts (first + i) in
       one_found (table s cells width 0) r k places texts i count first l (rw (← is_at, quoted-chars word s at (plain i l) h) (same_refl Folded word))
+
+pub ruleset quoting = (value-word, plain_more, quoted-one, one_found)

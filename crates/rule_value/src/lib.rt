@@ -1,17 +1,17 @@
 // Rules on one field of a record: an enumeration's value, null unless a condition holds, given if
 // one does.
-#![tactic(auto)]
+#![tactic(auto, using(crate::proofs::Laws::choosing, crate::proofs::Quoted::quoting, rule_cells::proofs::Laws::searching), unfolding(crate::specs::Value::agrees, crate::specs::Value::breaks_field, crate::specs::Value::field_rule, table_rows::specs::Rows::value_text_at, rule_cells::specs::Cells::first_that))]
 
 ghost use Rattle.std.specs.Prelude.{◌≡◌, true, ◌+◌, ◌<◌, ltb};
 ghost use Rattle.table_rows.specs.Rows.{value_text_at};
 ghost use Rattle.table_name.specs.Guess.{quoted_end};
-ghost use Rattle.rule_cells.specs.Cells.{table};
+ghost use Rattle.rule_cells.specs.Seen.{seen, cells_seen};
 ghost use Rattle.rule_value.specs.Plain.{PlainValues};
 ghost use Rattle.rule_value.specs.Value.{is_one_of, breaks_field, field_rule};
 ghost use Rattle.rule_value.specs.declared.FieldRule.TheVariants.{OneOf};
 
 use parts::part;
-use rule_cells::{is_given, start_of};
+use rule_cells::Table;
 use rule_when::{When, holds_when, is_value};
 use table_name::{is_graphic_word, quoted_end};
 use table_rows::{value_end, value_start};
@@ -29,9 +29,7 @@ pub enum FieldRule {
 // Which of the `count` values from number `first` on field k of record r is, counted from 0; `count` where it
 // is none of them.
 fn which_of(
-    s: &[u8],
-    cells: &[u32],
-    width: usize,
+    table: &Table,
     r: usize,
     k: usize,
     places: &[u32],
@@ -39,16 +37,14 @@ fn which_of(
     first: u32,
     count: u32,
 ) -> usize
-    ensures { ltb result count ≡ is_one_of (table s.now cells.now width 0) r k places.now texts.now count first }
+    ensures { ltb result count ≡ is_one_of (cells_seen table.now) r k places.now texts.now count first }
 {
     let from = first as usize;
     let n = count as usize;
-    let mut i = 0;
-    while i < n {
-        if is_value(s, cells, width, r, k, places, texts, from + i) {
+    for i in 0..n {
+        if is_value(table, r, k, places, texts, from + i) {
             return i;
         }
-        i += 1;
     }
     n
 }
@@ -59,14 +55,12 @@ fn are_plain(places: &[u32], texts: &[u8], first: u32, count: u32) -> bool
 {
     let from = first as usize;
     let n = count as usize;
-    let mut i = 0;
-    while i < n {
+    for i in 0..n {
         let start = value_start(places, from + i);
         let end = value_end(places, from + i);
         if !is_graphic_word(part(texts, start, end)) {
             return false;
         }
-        i += 1;
     }
     true
 }
@@ -96,17 +90,13 @@ fn quoted_of(
 {
     let from = first as usize;
     let n = count as usize;
-    if guess < n {
-        if is_quoted(s, at, places, texts, from + guess) {
-            return guess;
-        }
+    if guess < n && is_quoted(s, at, places, texts, from + guess) {
+        return guess;
     }
-    let mut i = 0;
-    while i < n {
+    for i in 0..n {
         if is_quoted(s, at, places, texts, from + i) {
             return i;
         }
-        i += 1;
     }
     n
 }
@@ -115,9 +105,7 @@ fn quoted_of(
 // they are listed: where the listed ones are `plain`, those are told by their bytes, and texts are compared only
 // where bytes tell nothing.
 fn find_value(
-    s: &[u8],
-    cells: &[u32],
-    width: usize,
+    table: &Table,
     r: usize,
     k: usize,
     places: &[u32],
@@ -128,61 +116,42 @@ fn find_value(
     plain: bool,
 ) -> usize
     requires { plain ≡ true → PlainValues places.now texts.now first count }
-    ensures { ltb result count ≡ is_one_of (table s.now cells.now width 0) r k places.now texts.now count first }
+    ensures { ltb result count ≡ is_one_of (cells_seen table.now) r k places.now texts.now count first }
 {
     let from = first as usize;
     let n = count as usize;
     if plain {
-        let at = start_of(cells, width, r, k);
-        let i = quoted_of(s, at, places, texts, first, count, last);
+        let at = table.start_of(r, k);
+        let i = quoted_of(table.text, at, places, texts, first, count, last);
         if i < n {
             return i;
         }
     }
-    if last < n {
-        if is_value(s, cells, width, r, k, places, texts, from + last) {
-            return last;
-        }
+    if last < n && is_value(table, r, k, places, texts, from + last) {
+        return last;
     }
-    which_of(s, cells, width, r, k, places, texts, first, count)
+    which_of(table, r, k, places, texts, first, count)
 }
 
 // Whether a record breaks the rule on field k.
 fn breaks_field(
-    s: &[u8],
-    cells: &[u32],
-    width: usize,
+    table: &Table,
     r: usize,
     k: usize,
     rule: FieldRule,
     places: &[u32],
     texts: &[u8],
 ) -> bool
-    ensures { result ≡ breaks_field (table s.now cells.now width 0) k rule places.now texts.now r }
+    ensures { result ≡ breaks_field (cells_seen table.now) k rule places.now texts.now r }
 {
-    let given = is_given(cells, width, r, k);
+    let given = table.is_given(r, k);
     match rule {
         FieldRule::OneOf { first, count } => {
-            if given {
-                let n = count as usize;
-                return !(which_of(s, cells, width, r, k, places, texts, first, count) < n);
-            }
-            false
+            given && count as usize <= which_of(table, r, k, places, texts, first, count)
         }
-        FieldRule::NullUnless { when } => {
-            if given {
-                return !holds_when(s, cells, width, r, when, places, texts);
-            }
-            false
-        }
+        FieldRule::NullUnless { when } => given && !holds_when(table, r, when, places, texts),
         FieldRule::GivenIf { when, wanted } => {
-            if given {
-                return false;
-            }
-            if wanted {
-                return holds_when(s, cells, width, r, when, places, texts);
-            }
-            !holds_when(s, cells, width, r, when, places, texts)
+            !given && wanted == holds_when(table, r, when, places, texts)
         }
     }
 }
@@ -190,58 +159,40 @@ fn breaks_field(
 // The first record whose field k is given and none of the values, counted from 1; 0 where there is none. Values
 // mostly repeat, so the one found last is tried first.
 fn one_of_rule(
-    s: &[u8],
-    cells: &[u32],
-    width: usize,
-    records: usize,
+    table: &Table,
     k: usize,
     first: u32,
     count: u32,
     places: &[u32],
     texts: &[u8],
 ) -> usize
-    ensures { result ≡ field_rule (table s.now cells.now width records) k (OneOf first count) places.now texts.now }
+    ensures { result ≡ field_rule (seen table.now) k (OneOf first count) places.now texts.now }
 {
     let n = count as usize;
     let plain = are_plain(places, texts, first, count);
     let mut last = 0;
-    let mut r = 0;
-    while r < records {
-        if is_given(cells, width, r, k) {
-            last = find_value(
-                s, cells, width, r, k, places, texts, first, count, last, plain,
-            );
+    for r in 0..table.records {
+        if table.is_given(r, k) {
+            last = find_value(table, r, k, places, texts, first, count, last, plain);
             if n <= last {
                 return r + 1;
             }
         }
-        r += 1;
     }
     0
 }
 
 // The first record that breaks the rule on field k, counted from 1; 0 where none does.
-pub fn field_rule(
-    s: &[u8],
-    cells: &[u32],
-    width: usize,
-    records: usize,
-    k: usize,
-    rule: FieldRule,
-    places: &[u32],
-    texts: &[u8],
-) -> usize
-    ensures { result ≡ field_rule (table s.now cells.now width records) k rule places.now texts.now }
+pub fn field_rule(table: &Table, k: usize, rule: FieldRule, places: &[u32], texts: &[u8]) -> usize
+    ensures { result ≡ field_rule (seen table.now) k rule places.now texts.now }
 {
     if let FieldRule::OneOf { first, count } = rule {
-        return one_of_rule(s, cells, width, records, k, first, count, places, texts);
+        return one_of_rule(table, k, first, count, places, texts);
     }
-    let mut r = 0;
-    while r < records {
-        if breaks_field(s, cells, width, r, k, rule, places, texts) {
+    for r in 0..table.records {
+        if breaks_field(table, r, k, rule, places, texts) {
             return r + 1;
         }
-        r += 1;
     }
     0
 }

@@ -8,11 +8,3 @@ use Rattle.amount.proofs.amount_of.Goals as goal
 
 pub returns-in-Is : goal.returns-in-Is
 returns-in-Is c = read_back _ (c.limited.ensures ∙ ap amount_of (sym c.in-Is.is)) (amount-near c.args.x)
-
-pub returns-in-Fraction : goal.returns-in-Fraction
-unfolding amount_of
-returns-in-Fraction c = ap amount_of (sym c.in-Fraction.is)
-
-pub returns-in-TooLarge : goal.returns-in-TooLarge
-unfolding amount_of
-returns-in-TooLarge c = ap amount_of (sym c.in-TooLarge.is)

@@ -11,5 +11,5 @@ overflow_sub-result c = held_below c.args.size (omega arith)
 pub returns-then-negative : goal.returns-then-negative
 returns-then-negative c = below-read c.args.size (omega arith) ∙ rw c.if-negative.true
 
-pub returns : goal.returns
-returns c = cast-read c.args.size (omega arith) ∙ rw c.if-negative.false
+pub returns-else-negative : goal.returns-else-negative
+returns-else-negative c = cast-read c.args.size (omega arith) ∙ rw c.if-negative.false

@@ -3,12 +3,10 @@
 use Prim.Native.Nat.{ℕ, ◌-◌}
 use mathlib.Core.Path.{◌≡◌}
 use mathlib.Core.Bool.{not}
-use Rattle.rule_cells.specs.Cells.{table, first_from, first_that}
+use Rattle.rule_cells.specs.Cells.{first_from, first_that}
 use Rattle.element_sums.specs.Sums.{record_fits}
+use Rattle.rule_cells.specs.Seen.{cells_seen}
 use Rattle.element_sums.proofs.all_fit.Given as goal
 
 abbrev pub invariant-loop-r : goal.invariant-loop-r
-invariant-loop-r l = first_that (λ (j : ℕ). not (record_fits (table l.s l.cells l.width 0) j)) l.records ≡ first_from (λ (j : ℕ). not (record_fits (table l.s l.cells l.width 0) j)) (l.records - l.r) l.r
-
-abbrev pub decreases-loop-r : goal.decreases-loop-r
-decreases-loop-r l = l.records - l.r
+invariant-loop-r l = first_that (λ (j : ℕ). not (record_fits (cells_seen l.table) j)) l.table.records ≡ first_from (λ (j : ℕ). not (record_fits (cells_seen l.table) j)) (l.table.records - l.r) l.r

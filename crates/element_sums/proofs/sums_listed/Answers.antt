@@ -12,17 +12,17 @@ use Rattle.element_sums.proofs.sums_listed.Goals as goal
 -- Assumes nothing.
 
 pub loop-i-init : goal.loop-i-init
-loop-i-init c = (fill-starts _ _, omega arith, refl)
+loop-i-init c = (fill-starts _ _, refl)
 
 pub offset_bounds-sums-i : goal.offset_bounds-sums-i
 offset_bounds-sums-i c = omega (arith, c.loop-i.invariant)
 
 pub bounds-sums-i : goal.bounds-sums-i
-bounds-sums-i c = omega (arith, c.loop-i.invariant.0.long, c.loop-i.invariant.2)
+bounds-sums-i c = omega (arith, c.loop-i.invariant.0.long, c.loop-i.invariant.1)
 
 pub loop-i-preserved : goal.loop-i-preserved
 unfolding sum_listed_at
-loop-i-preserved c = (fill-stores _ _ c.loop-i.invariant.0 (omega (arith, c.loop-i.invariant.2)) _ (read_back _ c.sum_listed-sum.ensures (listed-held _ _ _ _ c.requires)), omega arith, c.loop-i.invariant.2)
+loop-i-preserved c = (fill-stores _ _ c.loop-i.invariant.0 (omega (arith, c.loop-i.invariant.1)) _ (read_back _ c.sum_listed.ensures (listed-held _ _ _ _ c.requires)), c.loop-i.invariant.1)
 
 pub returns : goal.returns
-returns c = fill-ends _ _ c.loop-i.invariant.0 24 c.loop-i.invariant.2 c.loop-i-test.false
+returns c = fill-ends _ _ c.loop-i.invariant.0 24 c.loop-i.invariant.1 c.loop-i-test.false

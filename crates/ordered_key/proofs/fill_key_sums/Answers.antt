@@ -1,22 +1,10 @@
 -- `ordered_key::fill_key_sums` meets its contract: the first i places have their sums.
-use Prim.Native.Nat.{◌-◌}
 use native.Mathlib.Omega.{arith}
-use Rattle.mark_numbers.proofs.Laws.{fill-starts, fill-stores}
-use Rattle.key_order.proofs.Lists.{filled-whole}
-use Rattle.ordered_key.specs.Sums.{key_sum_of}
+use Rattle.mark_numbers.proofs.Laws.{fill-starts, fill-stores, fill-ends}
 use Rattle.ordered_key.proofs.fill_key_sums.Goals as goal
 
 pub loop-i-init : goal.loop-i-init
-loop-i-init c = (fill-starts _ _, omega arith)
-
-pub loop-i-smaller : goal.loop-i-smaller
-loop-i-smaller c = omega (arith, c.loop-i.invariant.0.long)
+loop-i-init c = fill-starts _ _
 
 pub loop-i-preserved : goal.loop-i-preserved
-loop-i-preserved c = (fill-stores _ _ c.loop-i.invariant.0 (omega (arith, c.loop-i.invariant.0.long)) _ c.key_sum_of.ensures, omega (arith, c.loop-i.invariant.0.long))
-
-pub shape_of-sums : goal.shape_of-sums
-shape_of-sums c = c.loop-i.invariant.0.long
-
-pub returns : goal.returns
-returns c = filled-whole _ _ _ _ c.loop-i.invariant.0 (omega (arith, c.loop-i.invariant.0.long)) c.loop-i.invariant.1
+loop-i-preserved c = fill-stores _ _ c.loop-i.invariant (omega (arith, c.loop-i.invariant.long)) _ c.key_sum_of.ensures

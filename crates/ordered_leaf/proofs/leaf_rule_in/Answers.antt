@@ -20,7 +20,7 @@ pub slice_bounds-first_naming-end-4 : goal.slice_bounds-first_naming-end-4
 slice_bounds-first_naming-end-4 c = sym (length-take-le _ _ (omega (arith, length-replicate {A = ℕ} 4096 0)))
 
 pub first_naming-requires : goal.first_naming-requires
-first_naming-requires c = fronts-fit _ _ _ _ _ _ c.pick_parents-n.ensures.value.1 c.if-u_records-gt4096.false c.pick_parents-n.auto.starts (length-replicate {A = ℕ} 4096 0) (length-replicate {A = ℕ} 4096 0) (length-replicate {A = ℕ} 4096 0)
+first_naming-requires c = fronts-fit _ _ _ _ _ _ c.pick_parents-n.ensures.value.1 c.if-elements-gt4096.false c.pick_parents-n.auto.starts (length-replicate {A = ℕ} 4096 0) (length-replicate {A = ℕ} 4096 0) (length-replicate {A = ℕ} 4096 0)
 
 pub returns : goal.returns
-returns c = picked-gives-rule _ _ _ _ _ _ _ _ _ _ _ _ _ _ _ c.pick_parents-n.ensures.value c.if-u_records-gt4096.false c.pick_parents-n.ensures.starts_after c.first_naming.ensures
+returns c = picked-gives-rule _ _ _ _ _ _ _ _ _ _ _ _ _ _ _ c.pick_parents-n.ensures.value c.if-elements-gt4096.false c.pick_parents-n.ensures.starts_after c.first_naming.ensures

@@ -9,4 +9,4 @@ unfolding outline_at
 returns-then-is_in_step c = sym (c.is_in_step.ensures c.if-is_in_step.true)
 
 pub returns-then-key_order : goal.returns-then-key_order
-returns-then-key_order c = filled-gives-rule _ _ _ _ _ _ _ _ _ _ _ _ _ _ _ _ _ _ _ _ _ _ _ _ c.first_with-typed.ensures c.if-typed-eq0.false c.start_of.ensures c.key_of.ensures c.if-order-u_records.false c.key_order.ensures.0 c.if-key_order.true c.key_order.ensures.1 c.key_order.ensures.2 c.first_breaking.ensures
+returns-then-key_order c = filled-gives-rule _ _ _ _ _ _ _ _ _ _ _ _ _ _ _ _ _ _ _ _ _ _ _ _ c.first_with-typed.ensures c.if-typed-ne0.true c.start_of.ensures c.key_of.ensures c.if-order-tasks.true c.key_order.ensures.0 c.if-key_order.true c.key_order.ensures.1 c.key_order.ensures.2 c.first_breaking.ensures

@@ -9,14 +9,14 @@ use Rattle.ordered_target.proofs.target_rule_by_order.Goals as goal
 pub first_unfound-from-requires : goal.first_unfound-from-requires
 first_unfound-from-requires c = λ e. absurd (true≢false (sym e))
 
-pub returns-then-then-records : goal.returns-then-then-records
+pub returns-then-then-table : goal.returns-then-then-table
 unfolding target_rule
-returns-then-then-records c = c.unfound_from.ensures ∙ sym (c.first_unfound-from.ensures.first_kept ∙ c.unslotted_from-then.ensures) ∙ from_first _ _
+returns-then-then-table c = c.unfound_from.ensures ∙ sym (c.first_unfound-from.ensures.first_kept ∙ c.unslotted_from-then.ensures) ∙ from_first _ _
 
-pub returns-else-then-records : goal.returns-else-then-records
+pub returns-else-then-table : goal.returns-else-then-table
 unfolding target_rule
-returns-else-then-records c = sym (c.first_unfound-from.ensures.first_kept ∙ c.unslotted_from-then.ensures ∙ search-ends _ _ _ c.if-then-records.false) ∙ from_first _ _
+returns-else-then-table c = sym (c.first_unfound-from.ensures.first_kept ∙ c.unslotted_from-then.ensures ∙ search-ends _ _ _ c.if-then-table.false) ∙ from_first _ _
 
-pub returns-else-from-records : goal.returns-else-from-records
+pub returns-else-from-table : goal.returns-else-from-table
 unfolding target_rule
-returns-else-from-records c = sym (c.first_unfound-from.ensures.first_kept ∙ search-ends _ _ _ c.if-from-records.false) ∙ from_first _ _
+returns-else-from-table c = sym (c.first_unfound-from.ensures.first_kept ∙ search-ends _ _ _ c.if-from-table.false) ∙ from_first _ _

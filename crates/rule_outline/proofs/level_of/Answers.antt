@@ -2,7 +2,8 @@
 -- enough to be raised.
 use mathlib.Core.Path.{sym, ◌∙◌}
 use native.Mathlib.Omega.{arith}
-use Rattle.rule_outline.proofs.Laws.{integer-small, level-below, level-above, level-digit, level-fraction, level-too-large}
+use Rattle.rule_outline.proofs.Laws.{integer-small, level-below, level-above, level-digit}
+use Rattle.rule_cells.specs.Cells.{integer_in}
 use Rattle.rule_outline.proofs.level_of.Goals as goal
 
 pub returns-then-digit-lt10 : goal.returns-then-digit-lt10
@@ -12,16 +13,12 @@ pub overflow_sub-result : goal.overflow_sub-result
 overflow_sub-result c = omega (arith, integer-small _ _ _ (sym c.integer_in.ensures ∙ c.in-Is.is))
 
 pub returns-then-negative : goal.returns-then-negative
+unfolding integer_in
 returns-then-negative c = level-below _ _ _ c.integer_in.ensures c.in-Is.is c.if-negative.true
 
-pub overflow_add-result-in-Is : goal.overflow_add-result-in-Is
-overflow_add-result-in-Is c = omega (arith, integer-small _ _ _ (sym c.integer_in.ensures ∙ c.in-Is.is))
+pub overflow_add-result-else-negative : goal.overflow_add-result-else-negative
+overflow_add-result-else-negative c = omega (arith, integer-small _ _ _ (sym c.integer_in.ensures ∙ c.in-Is.is))
 
 pub returns-else-negative : goal.returns-else-negative
+unfolding integer_in
 returns-else-negative c = level-above _ _ _ c.integer_in.ensures c.in-Is.is c.if-negative.false
-
-pub returns-in-Fraction : goal.returns-in-Fraction
-returns-in-Fraction c = level-fraction _ _ _ c.integer_in.ensures c.in-Fraction.is
-
-pub returns-in-TooLarge : goal.returns-in-TooLarge
-returns-in-TooLarge c = level-too-large _ _ _ c.integer_in.ensures c.in-TooLarge.is

@@ -2,14 +2,12 @@
 use mathlib.Core.Path.{◌≡◌}
 use Prim.Native.Nat.{ℕ, ◌-◌}
 use Rattle.json_chars.specs.Chars.{chars_at}
-use Rattle.json_same.specs.Same.{same_as}
-use Rattle.json_same.specs.declared.Case.TheVariants.{Folded}
-use Rattle.rule_cells.specs.Cells.{table, text_of, first_from}
-use Rattle.rule_target.specs.Target.{target_of}
+use Rattle.rule_cells.specs.Cells.{first_from, first_that}
+use Rattle.rule_cells.specs.Seen.{cells_seen}
+use Rattle.rule_target.proofs.Laws.{has_text}
 use Rattle.rule_target.proofs.target_of.Given as goal
 
 abbrev pub invariant-loop-q : goal.invariant-loop-q
-invariant-loop-q l = target_of (chars_at l.s l.at) (table l.u l.cells l.width l.records) l.m ≡ first_from (λ (x : ℕ). same_as Folded (chars_at l.s l.at) (text_of (table l.u l.cells l.width 0) x l.m)) (l.records - l.q) l.q
-
-abbrev pub decreases-loop-q : goal.decreases-loop-q
-decreases-loop-q l = l.records - l.q
+invariant-loop-q l =
+    let has = has_text (chars_at l.s l.at) (cells_seen l.targets) l.m in
+    first_from has (l.targets.records - l.q) l.q ≡ first_that has l.targets.records
