@@ -1,44 +1,31 @@
 // The board of document 01: 81 kinds, 81 places and 81 companions.
-#![tactic(auto)]
+#![tactic(auto, unfolding(crate::specs::Board::fresh_board, crate::specs::Board::faults_of, crate::specs::Board::accepted_board, boards::specs::Board::faults_of, boards::specs::Board::accepted_board))]
 
 ghost use Rattle.std.specs.Prelude.{◌≡◌, cond, ◌++◌, ◌≤◌, length, drop, leb};
 ghost use Rattle.report.specs.Report.{report_of};
 ghost use Rattle.board.specs.Board.{marks_on, fresh_board, faults_of, accepted_board};
 
-use mark_numbers::count_faults;
-use report::report;
-
-#[derive(Clone, Copy)]
-pub struct Board {
-    pub kinds: [u32; 81],
-    pub places: [usize; 81],
-    pub companions: [usize; 81],
-}
+pub type Board = boards::Board<81>;
 
 // A fresh board: every mark 'not judged'.
 pub fn fresh() -> Board
     ensures { result ≡ fresh_board }
 {
-    Board {
-        kinds: [2u32; 81],
-        places: [0usize; 81],
-        companions: [0usize; 81],
-    }
+    boards::fresh()
 }
 
 // How many marks don't hold.
 pub fn faults_on(board: Board) -> usize
     ensures { result ≡ faults_of board }
 {
-    let kinds = board.kinds;
-    count_faults(&kinds)
+    boards::faults_on(board)
 }
 
 // A set is accepted if all of its marks hold.
 pub fn is_accepted(board: Board) -> bool
     ensures { result ≡ accepted_board board }
 {
-    faults_on(board) == 0
+    boards::is_accepted(board)
 }
 
 // Writes the text of a refusal, or with none that of a board, to the front of an output of at least
@@ -48,8 +35,5 @@ pub fn report_board(refusal: u32, board: Board, out: &mut [u8]) -> usize
     ensures out_after { out.new ≡ cond (leb 6144 (length out.old)) (report_of refusal (marks_on board) ++ drop (length (report_of refusal (marks_on board))) out.old) out.old }
     ensures upper_bound { result ≤ length out.old }
 {
-    let kinds = board.kinds;
-    let places = board.places;
-    let companions = board.companions;
-    report(refusal, &kinds, &places, &companions, out)
+    boards::report_board(refusal, board, out)
 }

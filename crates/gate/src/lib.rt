@@ -1,6 +1,6 @@
 // Document 01's three calls with a board: judge a bundle in full, try a change, make it; and what is told
 // of one mark. Each is the call over lists, and the ones that own their memory are those that are lent it.
-#![tactic(auto)]
+#![tactic(auto, unfolding(crate::specs::Gate::verdict_of, gate_boards::specs::Verdict::verdict_of, gate_lists::specs::Which::gate_called))]
 
 ghost use Rattle.std.specs.Prelude.{◌≡◌, length};
 ghost use Rattle.parts.specs.Files.{new_file};
@@ -14,17 +14,12 @@ ghost use Rattle.schedule.specs.Schedule.{schedule};
 ghost use Rattle.gate.specs.Gate.{verdict_of};
 
 use board::Board;
-use gate_lists::{Which, judge_lists, make_lists, reason_lists, try_lists};
+use gate_lists::{Which, reason_lists};
 use parts::part;
 use reason_answer::{Reason, Shown};
 
 // How a call ends: a refusal or 0, the length of the bundle that was judged (0 if refused), the board.
-#[derive(Clone, Copy)]
-pub struct Verdict {
-    pub refusal: u32,
-    pub length: usize,
-    pub board: Board,
-}
+pub type Verdict = gate_boards::Verdict<81>;
 
 // Judges a bundle in full in a lent workspace, whatever that holds. One of fewer than 794,702 numbers
 // is refused as 14, before all else.
@@ -32,35 +27,14 @@ pub fn judge_in(bundle: &[u8], work: &mut [u32]) -> Verdict
     ensures value { result ≡ verdict_of (judged_in schedule bundle.now (length work.old) (fresh_marks 81)) }
     ensures work_after { work.new ≡ judge_left schedule bundle.now result.refusal work.old }
 {
-    let mut kinds = [2u32; 81];
-    let mut places = [0usize; 81];
-    let mut companions = [0usize; 81];
-    let made = judge_lists(
-        Which::Schedule,
-        bundle,
-        work,
-        &mut kinds,
-        &mut places,
-        &mut companions,
-    );
-    let board = Board {
-        kinds,
-        places,
-        companions,
-    };
-    Verdict {
-        refusal: made.refusal,
-        length: made.length,
-        board,
-    }
+    gate_boards::judge_in(Which::Schedule, bundle, work)
 }
 
 // Judges a bundle in full.
 pub fn judge(bundle: &[u8]) -> Verdict
     ensures { result ≡ verdict_of (judgement schedule bundle.now) }
 {
-    let mut work = [0u32; 794702];
-    judge_in(bundle, &mut work)
+    gate_boards::judge::<81, 794702>(Which::Schedule, bundle)
 }
 
 // Tries a change of file k, to new bytes or, where `present` is false, to none: what making it into an
@@ -76,30 +50,7 @@ pub fn try_in<'a>(
     ensures value { result ≡ verdict_of (tried_in schedule bundle.now k (new_file present new.now) (length work.old) (marks_on board)) }
     ensures work_after { work.new ≡ change_left schedule bundle.now k (new_file present new.now) result.refusal work.old }
 {
-    let mut kinds = board.kinds;
-    let mut places = board.places;
-    let mut companions = board.companions;
-    let made = try_lists(
-        Which::Schedule,
-        bundle,
-        k,
-        present,
-        new,
-        work,
-        &mut kinds,
-        &mut places,
-        &mut companions,
-    );
-    let board = Board {
-        kinds,
-        places,
-        companions,
-    };
-    Verdict {
-        refusal: made.refusal,
-        length: made.length,
-        board,
-    }
+    gate_boards::try_in(Which::Schedule, bundle, board, k, present, new, work)
 }
 
 // Tries a change.
@@ -112,8 +63,7 @@ pub fn try_change<'a>(
 ) -> Verdict
     ensures { result ≡ verdict_of (tried schedule bundle.now k (new_file present new.now) (marks_on board)) }
 {
-    let mut work = [0u32; 794702];
-    try_in(bundle, board, k, present, new, &mut work)
+    gate_boards::try_change::<81, 794702>(Which::Schedule, bundle, board, k, present, new)
 }
 
 // Makes a change in a lent workspace: the new bundle goes to the front of `out`, unless it is refused;
@@ -131,31 +81,7 @@ pub fn make_in<'a>(
     ensures out_after { out.new ≡ output_in schedule bundle.now k (new_file present new.now) (length work.old) (marks_on board) out.old }
     ensures work_after { work.new ≡ change_left schedule bundle.now k (new_file present new.now) result.refusal work.old }
 {
-    let mut kinds = board.kinds;
-    let mut places = board.places;
-    let mut companions = board.companions;
-    let made = make_lists(
-        Which::Schedule,
-        bundle,
-        k,
-        present,
-        new,
-        out,
-        work,
-        &mut kinds,
-        &mut places,
-        &mut companions,
-    );
-    let board = Board {
-        kinds,
-        places,
-        companions,
-    };
-    Verdict {
-        refusal: made.refusal,
-        length: made.length,
-        board,
-    }
+    gate_boards::make_in(Which::Schedule, bundle, board, k, present, new, out, work)
 }
 
 // Makes a change.
@@ -170,8 +96,7 @@ pub fn make_change<'a>(
     ensures value { result ≡ verdict_of (change_made schedule bundle.now k (new_file present new.now) (marks_on board) (length out.old)) }
     ensures out_after { out.new ≡ output 20 bundle.now k (new_file present new.now) out.old }
 {
-    let mut work = [0u32; 794702];
-    make_in(bundle, board, k, present, new, out, &mut work)
+    gate_boards::make_change::<81, 794702>(Which::Schedule, bundle, board, k, present, new, out)
 }
 
 // What is told of a mark of a bundle, in a lent workspace, whatever that holds. One of fewer than 794,702
@@ -187,8 +112,7 @@ pub fn reason_in(bundle: &[u8], mark: usize, work: &mut [u32]) -> Reason
 pub fn reason(bundle: &[u8], mark: usize) -> Reason
     ensures { result ≡ reason_of schedule bundle.now mark }
 {
-    let mut work = [0u32; 794702];
-    reason_in(bundle, mark, &mut work)
+    gate_boards::reason::<794702>(Which::Schedule, bundle, mark)
 }
 
 fn shown_part(bundle: &[u8], shown: Shown) -> &[u8]

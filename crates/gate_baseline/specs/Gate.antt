@@ -1,7 +1,7 @@
 -- The profile's gate with a board: its calls are those of any gate, for the value `baseline`.
 use Rattle.gate_baseline.specs.Board.{board_of}
 use Rattle.gate_calls.specs.Calls.{Answer}
-use Rattle.gate_baseline.specs.declared.Verdict.{Verdict}
+use Rattle.gate_boards.specs.declared.Verdict.{Verdict}
 
-unfoldable pub verdict_of : Answer → Verdict
+unfoldable pub verdict_of : Answer → Verdict 85
 verdict_of x = record { refusal = x.refusal; length = x.length; board = board_of x.marks }

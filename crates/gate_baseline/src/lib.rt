@@ -1,7 +1,7 @@
 // The baseline profile's calls with its board of 85 marks: judge a bundle in full, try a change, make it;
 // and what is told of one mark. Each is the call over lists, and the ones that own their memory are those
 // that are lent it.
-#![tactic(auto)]
+#![tactic(auto, unfolding(crate::specs::Gate::verdict_of, gate_boards::specs::Verdict::verdict_of, gate_lists::specs::Which::gate_called, crate::specs::Board::fresh_board, crate::specs::Board::faults_of, crate::specs::Board::accepted_board, boards::specs::Board::faults_of, boards::specs::Board::accepted_board))]
 
 ghost use Rattle.std.specs.Prelude.{◌≡◌, cond, ◌++◌, ◌≤◌, length, drop, leb};
 ghost use Rattle.parts.specs.Files.{new_file};
@@ -15,44 +15,32 @@ ghost use Rattle.report.specs.Report.{report_of};
 ghost use Rattle.gate_baseline.specs.Board.{marks_on, fresh_board, faults_of, accepted_board};
 ghost use Rattle.gate_baseline.specs.Gate.{verdict_of};
 
-use gate_lists::{Which, judge_lists, make_lists, reason_lists, try_lists};
-use mark_numbers::count_faults;
+use gate_lists::{Which, reason_lists};
 use reason_answer::Reason;
-use report::report;
 
 // ---- The board
 
-#[derive(Clone, Copy)]
-pub struct Board {
-    pub kinds: [u32; 85],
-    pub places: [usize; 85],
-    pub companions: [usize; 85],
-}
+pub type Board = boards::Board<85>;
 
 // A fresh board: every mark 'not judged'.
 pub fn fresh() -> Board
     ensures { result ≡ fresh_board }
 {
-    Board {
-        kinds: [2u32; 85],
-        places: [0usize; 85],
-        companions: [0usize; 85],
-    }
+    boards::fresh()
 }
 
 // How many marks don't hold.
 pub fn faults_on(board: Board) -> usize
     ensures { result ≡ faults_of board }
 {
-    let kinds = board.kinds;
-    count_faults(&kinds)
+    boards::faults_on(board)
 }
 
 // A set is accepted if all of its marks hold.
 pub fn is_accepted(board: Board) -> bool
     ensures { result ≡ accepted_board board }
 {
-    faults_on(board) == 0
+    boards::is_accepted(board)
 }
 
 // Writes the text of a refusal, or with none that of a board, to the front of an output of at least
@@ -62,21 +50,13 @@ pub fn report_board(refusal: u32, board: Board, out: &mut [u8]) -> usize
     ensures out_after { out.new ≡ cond (leb 6400 (length out.old)) (report_of refusal (marks_on board) ++ drop (length (report_of refusal (marks_on board))) out.old) out.old }
     ensures upper_bound { result ≤ length out.old }
 {
-    let kinds = board.kinds;
-    let places = board.places;
-    let companions = board.companions;
-    report(refusal, &kinds, &places, &companions, out)
+    boards::report_board(refusal, board, out)
 }
 
 // ---- The calls
 
 // How a call ends: a refusal or 0, the length of the bundle that was judged (0 if refused), the board.
-#[derive(Clone, Copy)]
-pub struct Verdict {
-    pub refusal: u32,
-    pub length: usize,
-    pub board: Board,
-}
+pub type Verdict = gate_boards::Verdict<85>;
 
 // Judges a bundle in full in a lent workspace, whatever that holds. One of fewer than 794,702 numbers
 // is refused as 14, before all else.
@@ -84,35 +64,14 @@ pub fn judge_in(bundle: &[u8], work: &mut [u32]) -> Verdict
     ensures value { result ≡ verdict_of (judged_in baseline bundle.now (length work.old) (fresh_marks 85)) }
     ensures work_after { work.new ≡ judge_left baseline bundle.now result.refusal work.old }
 {
-    let mut kinds = [2u32; 85];
-    let mut places = [0usize; 85];
-    let mut companions = [0usize; 85];
-    let made = judge_lists(
-        Which::Baseline,
-        bundle,
-        work,
-        &mut kinds,
-        &mut places,
-        &mut companions,
-    );
-    let board = Board {
-        kinds,
-        places,
-        companions,
-    };
-    Verdict {
-        refusal: made.refusal,
-        length: made.length,
-        board,
-    }
+    gate_boards::judge_in(Which::Baseline, bundle, work)
 }
 
 // Judges a bundle in full.
 pub fn judge(bundle: &[u8]) -> Verdict
     ensures { result ≡ verdict_of (judgement baseline bundle.now) }
 {
-    let mut work = [0u32; 794702];
-    judge_in(bundle, &mut work)
+    gate_boards::judge::<85, 794702>(Which::Baseline, bundle)
 }
 
 // Tries a change of file k, to new bytes or, where `present` is false, to none: what making it into an
@@ -128,30 +87,7 @@ pub fn try_in<'a>(
     ensures value { result ≡ verdict_of (tried_in baseline bundle.now k (new_file present new.now) (length work.old) (marks_on board)) }
     ensures work_after { work.new ≡ change_left baseline bundle.now k (new_file present new.now) result.refusal work.old }
 {
-    let mut kinds = board.kinds;
-    let mut places = board.places;
-    let mut companions = board.companions;
-    let made = try_lists(
-        Which::Baseline,
-        bundle,
-        k,
-        present,
-        new,
-        work,
-        &mut kinds,
-        &mut places,
-        &mut companions,
-    );
-    let board = Board {
-        kinds,
-        places,
-        companions,
-    };
-    Verdict {
-        refusal: made.refusal,
-        length: made.length,
-        board,
-    }
+    gate_boards::try_in(Which::Baseline, bundle, board, k, present, new, work)
 }
 
 // Tries a change.
@@ -164,8 +100,7 @@ pub fn try_change<'a>(
 ) -> Verdict
     ensures { result ≡ verdict_of (tried baseline bundle.now k (new_file present new.now) (marks_on board)) }
 {
-    let mut work = [0u32; 794702];
-    try_in(bundle, board, k, present, new, &mut work)
+    gate_boards::try_change::<85, 794702>(Which::Baseline, bundle, board, k, present, new)
 }
 
 // Makes a change in a lent workspace: the new bundle goes to the front of `out`, unless it is refused;
@@ -183,31 +118,7 @@ pub fn make_in<'a>(
     ensures out_after { out.new ≡ output_in baseline bundle.now k (new_file present new.now) (length work.old) (marks_on board) out.old }
     ensures work_after { work.new ≡ change_left baseline bundle.now k (new_file present new.now) result.refusal work.old }
 {
-    let mut kinds = board.kinds;
-    let mut places = board.places;
-    let mut companions = board.companions;
-    let made = make_lists(
-        Which::Baseline,
-        bundle,
-        k,
-        present,
-        new,
-        out,
-        work,
-        &mut kinds,
-        &mut places,
-        &mut companions,
-    );
-    let board = Board {
-        kinds,
-        places,
-        companions,
-    };
-    Verdict {
-        refusal: made.refusal,
-        length: made.length,
-        board,
-    }
+    gate_boards::make_in(Which::Baseline, bundle, board, k, present, new, out, work)
 }
 
 // Makes a change.
@@ -222,8 +133,7 @@ pub fn make_change<'a>(
     ensures value { result ≡ verdict_of (change_made baseline bundle.now k (new_file present new.now) (marks_on board) (length out.old)) }
     ensures out_after { out.new ≡ output 20 bundle.now k (new_file present new.now) out.old }
 {
-    let mut work = [0u32; 794702];
-    make_in(bundle, board, k, present, new, out, &mut work)
+    gate_boards::make_change::<85, 794702>(Which::Baseline, bundle, board, k, present, new, out)
 }
 
 // What is told of a mark of a bundle, in a lent workspace, whatever that holds. One of fewer than 794,702
@@ -239,6 +149,5 @@ pub fn reason_in(bundle: &[u8], mark: usize, work: &mut [u32]) -> Reason
 pub fn reason(bundle: &[u8], mark: usize) -> Reason
     ensures { result ≡ reason_of baseline bundle.now mark }
 {
-    let mut work = [0u32; 794702];
-    reason_in(bundle, mark, &mut work)
+    gate_boards::reason::<794702>(Which::Baseline, bundle, mark)
 }

@@ -1,7 +1,7 @@
 // The contract side's calls with its board of 19 marks: judge a bundle in full, try a change, make it;
 // and what is told of one mark. Each is the call over lists, and the ones that own their memory are those
 // that are lent it.
-#![tactic(auto)]
+#![tactic(auto, unfolding(crate::specs::Gate::verdict_of, gate_boards::specs::Verdict::verdict_of, gate_lists::specs::Which::gate_called, crate::specs::Board::fresh_board, crate::specs::Board::faults_of, crate::specs::Board::accepted_board, boards::specs::Board::faults_of, boards::specs::Board::accepted_board))]
 
 ghost use Rattle.std.specs.Prelude.{◌≡◌, cond, ◌++◌, ◌≤◌, length, drop, leb};
 ghost use Rattle.parts.specs.Files.{new_file};
@@ -15,44 +15,32 @@ ghost use Rattle.report.specs.Report.{report_of};
 ghost use Rattle.gate_contract.specs.Board.{marks_on, fresh_board, faults_of, accepted_board};
 ghost use Rattle.gate_contract.specs.Gate.{verdict_of};
 
-use gate_lists::{Which, judge_lists, make_lists, reason_lists, try_lists};
-use mark_numbers::count_faults;
+use gate_lists::{Which, reason_lists};
 use reason_answer::Reason;
-use report::report;
 
 // ---- The board
 
-#[derive(Clone, Copy)]
-pub struct Board {
-    pub kinds: [u32; 19],
-    pub places: [usize; 19],
-    pub companions: [usize; 19],
-}
+pub type Board = boards::Board<19>;
 
 // A fresh board: every mark 'not judged'.
 pub fn fresh() -> Board
     ensures { result ≡ fresh_board }
 {
-    Board {
-        kinds: [2u32; 19],
-        places: [0usize; 19],
-        companions: [0usize; 19],
-    }
+    boards::fresh()
 }
 
 // How many marks don't hold.
 pub fn faults_on(board: Board) -> usize
     ensures { result ≡ faults_of board }
 {
-    let kinds = board.kinds;
-    count_faults(&kinds)
+    boards::faults_on(board)
 }
 
 // A set is accepted if all of its marks hold.
 pub fn is_accepted(board: Board) -> bool
     ensures { result ≡ accepted_board board }
 {
-    faults_on(board) == 0
+    boards::is_accepted(board)
 }
 
 // Writes the text of a refusal, or with none that of a board, to the front of an output of at least
@@ -62,21 +50,13 @@ pub fn report_board(refusal: u32, board: Board, out: &mut [u8]) -> usize
     ensures out_after { out.new ≡ cond (leb 2176 (length out.old)) (report_of refusal (marks_on board) ++ drop (length (report_of refusal (marks_on board))) out.old) out.old }
     ensures upper_bound { result ≤ length out.old }
 {
-    let kinds = board.kinds;
-    let places = board.places;
-    let companions = board.companions;
-    report(refusal, &kinds, &places, &companions, out)
+    boards::report_board(refusal, board, out)
 }
 
 // ---- The calls
 
 // How a call ends: a refusal or 0, the length of the bundle that was judged (0 if refused), the board.
-#[derive(Clone, Copy)]
-pub struct Verdict {
-    pub refusal: u32,
-    pub length: usize,
-    pub board: Board,
-}
+pub type Verdict = gate_boards::Verdict<19>;
 
 // Judges a bundle in full in a lent workspace, whatever that holds. One of fewer than 188,416 numbers
 // is refused as 14, before all else.
@@ -84,35 +64,14 @@ pub fn judge_in(bundle: &[u8], work: &mut [u32]) -> Verdict
     ensures value { result ≡ verdict_of (judged_in contract bundle.now (length work.old) (fresh_marks 19)) }
     ensures work_after { work.new ≡ judge_left contract bundle.now result.refusal work.old }
 {
-    let mut kinds = [2u32; 19];
-    let mut places = [0usize; 19];
-    let mut companions = [0usize; 19];
-    let made = judge_lists(
-        Which::Contract,
-        bundle,
-        work,
-        &mut kinds,
-        &mut places,
-        &mut companions,
-    );
-    let board = Board {
-        kinds,
-        places,
-        companions,
-    };
-    Verdict {
-        refusal: made.refusal,
-        length: made.length,
-        board,
-    }
+    gate_boards::judge_in(Which::Contract, bundle, work)
 }
 
 // Judges a bundle in full.
 pub fn judge(bundle: &[u8]) -> Verdict
     ensures { result ≡ verdict_of (judgement contract bundle.now) }
 {
-    let mut work = [0u32; 188416];
-    judge_in(bundle, &mut work)
+    gate_boards::judge::<19, 188416>(Which::Contract, bundle)
 }
 
 // Tries a change of file k, to new bytes or, where `present` is false, to none: what making it into an
@@ -128,30 +87,7 @@ pub fn try_in<'a>(
     ensures value { result ≡ verdict_of (tried_in contract bundle.now k (new_file present new.now) (length work.old) (marks_on board)) }
     ensures work_after { work.new ≡ change_left contract bundle.now k (new_file present new.now) result.refusal work.old }
 {
-    let mut kinds = board.kinds;
-    let mut places = board.places;
-    let mut companions = board.companions;
-    let made = try_lists(
-        Which::Contract,
-        bundle,
-        k,
-        present,
-        new,
-        work,
-        &mut kinds,
-        &mut places,
-        &mut companions,
-    );
-    let board = Board {
-        kinds,
-        places,
-        companions,
-    };
-    Verdict {
-        refusal: made.refusal,
-        length: made.length,
-        board,
-    }
+    gate_boards::try_in(Which::Contract, bundle, board, k, present, new, work)
 }
 
 // Tries a change.
@@ -164,8 +100,7 @@ pub fn try_change<'a>(
 ) -> Verdict
     ensures { result ≡ verdict_of (tried contract bundle.now k (new_file present new.now) (marks_on board)) }
 {
-    let mut work = [0u32; 188416];
-    try_in(bundle, board, k, present, new, &mut work)
+    gate_boards::try_change::<19, 188416>(Which::Contract, bundle, board, k, present, new)
 }
 
 // Makes a change in a lent workspace: the new bundle goes to the front of `out`, unless it is refused;
@@ -183,31 +118,7 @@ pub fn make_in<'a>(
     ensures out_after { out.new ≡ output_in contract bundle.now k (new_file present new.now) (length work.old) (marks_on board) out.old }
     ensures work_after { work.new ≡ change_left contract bundle.now k (new_file present new.now) result.refusal work.old }
 {
-    let mut kinds = board.kinds;
-    let mut places = board.places;
-    let mut companions = board.companions;
-    let made = make_lists(
-        Which::Contract,
-        bundle,
-        k,
-        present,
-        new,
-        out,
-        work,
-        &mut kinds,
-        &mut places,
-        &mut companions,
-    );
-    let board = Board {
-        kinds,
-        places,
-        companions,
-    };
-    Verdict {
-        refusal: made.refusal,
-        length: made.length,
-        board,
-    }
+    gate_boards::make_in(Which::Contract, bundle, board, k, present, new, out, work)
 }
 
 // Makes a change.
@@ -222,8 +133,7 @@ pub fn make_change<'a>(
     ensures value { result ≡ verdict_of (change_made contract bundle.now k (new_file present new.now) (marks_on board) (length out.old)) }
     ensures out_after { out.new ≡ output 4 bundle.now k (new_file present new.now) out.old }
 {
-    let mut work = [0u32; 188416];
-    make_in(bundle, board, k, present, new, out, &mut work)
+    gate_boards::make_change::<19, 188416>(Which::Contract, bundle, board, k, present, new, out)
 }
 
 // What is told of a mark of a bundle, in a lent workspace, whatever that holds. One of fewer than 188,416
@@ -239,6 +149,5 @@ pub fn reason_in(bundle: &[u8], mark: usize, work: &mut [u32]) -> Reason
 pub fn reason(bundle: &[u8], mark: usize) -> Reason
     ensures { result ≡ reason_of contract bundle.now mark }
 {
-    let mut work = [0u32; 188416];
-    reason_in(bundle, mark, &mut work)
+    gate_boards::reason::<188416>(Which::Contract, bundle, mark)
 }

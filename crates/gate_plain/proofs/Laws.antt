@@ -21,7 +21,7 @@ use Rattle.rule_shape.specs.Rule.{first_file_of, second_file_of}
 use Rattle.rules.specs.declared.Break.{Break}
 use Rattle.rules.specs.Judge.{rule_break, is_judged, mark_of}
 use Rattle.bundle_layout.specs.Bundle.{is_omitted, part_at, file_at, bundle_fault}
-use Rattle.board.specs.declared.Board.{Board}
+use Rattle.boards.specs.declared.Board.{Board}
 use Rattle.board.specs.Board.{fresh_board}
 use Rattle.gate_marks.specs.Gate.{Gate, gate_from, marks_of, rule_of_mark}
 use Rattle.gate_marks.specs.Work.{zeros, width_of, room_of, read_of}
@@ -127,11 +127,11 @@ pub own-cells : {lent : ℕ} → lent ≡ 524288 → 524288 ≤ lent
 own-cells e = omega arith
 
 -- ---- a bundle that is refused
-pub refused-verdict : (s : List ℕ) {fault : ℕ} → fault ≡ bundle_fault 20 s → (fault ≡ 0 → ⊥) → {board : Board} → board ≡ fresh_board → record { refusal = fault; length = 0; board = board } ≡ verdict_of (judgement schedule s)
+pub refused-verdict : (s : List ℕ) {fault : ℕ} → fault ≡ bundle_fault 20 s → (fault ≡ 0 → ⊥) → {board : Board 81} → board ≡ fresh_board → record { refusal = fault; length = 0; board = board } ≡ verdict_of (judgement schedule s)
 unfolding verdict_of judgement fresh_board
 refused-verdict s {fault} e some b =
     let is : bundle_fault schedule.files s ≡ fault = ap (λ n. bundle_fault n s) files-are ∙ sym e in
-    rw (is, ne_eqb fault 0 some, marks-are) (ap (λ (x : Board). record { refusal = fault; length = 0; board = x }) b)
+    rw (is, ne_eqb fault 0 some, marks-are) (ap (λ (x : Board 81). record { refusal = fault; length = 0; board = x }) b)
 
 -- ---- one that is not
 pub plain-verdict : (s : List ℕ) {fault : ℕ} → fault ≡ bundle_fault 20 s → fault ≡ 0 → {kinds places companions : List ℕ} → marks_in kinds places companions ≡ full_marks schedule (file_at s)

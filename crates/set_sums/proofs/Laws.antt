@@ -18,7 +18,7 @@ use Rattle.board.specs.Board.{accepted_board}
 use Rattle.gate_calls.specs.Calls.{judgement}
 use Rattle.gate_calls.specs.Lent.{judge_left}
 use Rattle.schedule.specs.Schedule.{schedule}
-use Rattle.gate.specs.declared.Verdict.{Verdict}
+use Rattle.gate_boards.specs.declared.Verdict.{Verdict}
 use Rattle.gate.specs.Gate.{verdict_of}
 use Rattle.set_sums.specs.Set.{assignments_of, resources_of, set_accepted, set_sums, set_sums_in}
 use Rattle.set_sums.specs.Work.{tables_left, sums_left}
@@ -28,7 +28,7 @@ pub too_short : (s work : List ℕ) → length work < 794702 → (no_sums ≡ se
 unfolding set_sums_in sums_left
 too_short s work h = (rw (lt-leb 794702 (length work) h), rw (lt-leb 794702 (length work) h))
 
-module _ (s work : List ℕ) (room : 794702 ≤ length work) {v : Verdict} (v-is : v ≡ verdict_of (judgement schedule s)) {left : List ℕ} (left_is : left ≡ judge_left schedule s v.refusal work) where
+module _ (s work : List ℕ) (room : 794702 ≤ length work) {v : Verdict 81} (v-is : v ≡ verdict_of (judgement schedule s)) {left : List ℕ} (left_is : left ≡ judge_left schedule s v.refusal work) where
   -- ---- left out
   out-by : set_accepted s ≡ false → (no_sums ≡ set_sums_in (length work) s) × (left ≡ sums_left s work)
   unfolding set_sums_in sums_left set_sums verdict_of

@@ -1,13 +1,10 @@
 -- `gate::reason` meets its contract: a workspace of its own is room enough.
 -- Assumes nothing.
-use Prim.Native.Nat.{ℕ}
-use mathlib.Core.Path.{sym}
-use lib.ListN.{length-replicate}
-use Rattle.gate.proofs.Laws.{own_room, own-reason}
+use native.Mathlib.Omega.{arith}
+use Rattle.gate_lists.specs.Which.{gate_called}
+use Rattle.gate.proofs.Laws.{room-there}
 use Rattle.gate.proofs.reason.Goals as goal
 
-pub slice_bounds-reason_in-end : goal.slice_bounds-reason_in-end
-slice_bounds-reason_in-end c = sym (length-replicate {A = ℕ} 794702 0)
-
-pub returns : goal.returns
-returns c = own-reason (own_room (length-replicate {A = ℕ} 794702 0)) c.args.bundle.now c.args.mark c.reason_in.ensures.value
+pub reason-requires-clause-room : goal.reason-requires-clause-room
+unfolding gate_called
+reason-requires-clause-room c = room-there (omega arith)

@@ -1,21 +1,11 @@
 -- `gate::try_change` meets its contract: a workspace of its own is room enough.
-use Prim.Native.Nat.{ℕ}
-use mathlib.Core.Path.{sym}
-use borrow.Author.Rules.{rules}
-use lib.ListN.{length-replicate}
-use Rattle.parts.specs.Files.{new_file}
-use Rattle.mark_numbers.proofs.Laws.{Long}
-use Rattle.board.specs.Board.{marks_on}
-use Rattle.gate.proofs.Laws.{own_room, own-try}
+-- Assumes nothing.
+use native.Mathlib.Omega.{arith}
+use Rattle.gate_lists.specs.Which.{gate_called}
+use Rattle.schedule.proofs.Laws.{marks-are}
+use Rattle.gate.proofs.Laws.{room-there}
 use Rattle.gate.proofs.try_change.Goals as goal
-use Rattle.gate.proofs.try_change.Goals.{Start}
 
-pub slice_bounds-try_in-end : goal.slice_bounds-try_in-end
-slice_bounds-try_in-end c = sym (length-replicate {A = ℕ} 794702 0)
-
--- asked at the start, where there is no workspace to compute yet
-board-long : (c : Start) → Long 81 (marks_on c.args.board)
-board-long c = record { kinds-long = search rules; places-long = search rules; companions-long = search rules }
-
-pub returns : goal.returns
-returns c = own-try (own_room (length-replicate {A = ℕ} 794702 0)) c.args.bundle.now c.args.k (new_file c.args.present c.args.new.now) (marks_on c.args.board) (board-long (goal.at.returns c).Start) c.try_in.ensures.value
+pub try_change-requires : goal.try_change-requires
+unfolding gate_called
+try_change-requires c = (omega arith, (omega arith, (marks-are, (room-there (omega arith), omega arith))))

@@ -1,12 +1,11 @@
 -- `gate_contract::judge` meets its contract: a workspace of its own is room enough.
-use Prim.Native.Nat.{ℕ}
-use mathlib.Core.Path.{sym}
-use lib.ListN.{length-replicate}
-use Rattle.gate_contract.proofs.Laws.{own-judge}
+-- Assumes nothing.
+use native.Mathlib.Omega.{arith}
+use Rattle.gate_lists.specs.Which.{gate_called}
+use Rattle.contract.proofs.Laws.{marks-are}
+use Rattle.gate_contract.proofs.Laws.{room-there}
 use Rattle.gate_contract.proofs.judge.Goals as goal
 
-pub slice_bounds-judge_in-end : goal.slice_bounds-judge_in-end
-slice_bounds-judge_in-end c = sym (length-replicate {A = ℕ} 188416 0)
-
-pub returns : goal.returns
-returns c = own-judge (length-replicate {A = ℕ} 188416 0) c.args.bundle.now c.judge_in.ensures.value
+pub judge-requires : goal.judge-requires
+unfolding gate_called
+judge-requires c = (omega arith, (marks-are, (room-there (omega arith), omega arith)))

@@ -1,9 +1,0 @@
--- `gate_baseline::fresh` meets its contract, computed.
-use mathlib.Core.Path.{refl}
-use Rattle.mark_numbers.specs.Marks.{list_of, marks_from, fresh_marks}
-use Rattle.gate_baseline.specs.Board.{fresh_board}
-use Rattle.gate_baseline.proofs.fresh.Goals as goal
-
-pub returns : goal.returns
-unfolding fresh_board fresh_marks marks_from list_of
-returns c = refl

@@ -1,0 +1,10 @@
+-- `gate_boards::judge` meets its contract: a workspace of its own is room enough.
+-- Assumes nothing.
+use Prim.Native.Nat.{ℕ}
+use lib.ListN.{length-replicate}
+use Rattle.gate_lists.specs.Which.{gate_called}
+use Rattle.gate_boards.proofs.Laws.{own-judge}
+use Rattle.gate_boards.proofs.judge.Goals as goal
+
+pub returns : goal.returns
+returns g c = own-judge (gate_called c.args.which) c.requires.room (length-replicate {A = ℕ} g.row.W 0) c.requires.marks c.args.bundle.now c.judge_in.ensures.value
