@@ -1,6 +1,6 @@
 // Both desks in one call (document 02, order 10), over what a caller lends: a workspace, and for each desk
 // lists for its marks.
-#![tactic(auto)]
+#![tactic(auto, unfolding(desks_calls::specs::Desks::seen_by_a, desks_calls::specs::Desks::seen_by_b, desks_calls::specs::Desks::bundle_changed, desks_calls::specs::Desks::is_written))]
 
 ghost use Rattle.std.specs.Prelude.{◌≡◌, true, cond, ◌||◌, length, eqb};
 ghost use Rattle.parts.specs.Files.{new_file};
@@ -70,10 +70,7 @@ fn is_written(whose: Whose, a: u32, b: u32) -> bool
 fn either_none(a: u32, b: u32) -> bool
     ensures { result ≡ eqb a 0 || eqb b 0 }
 {
-    if a == 0 {
-        return true;
-    }
-    b == 0
+    a == 0 || b == 0
 }
 
 // How long the new bundle is, where it is written.

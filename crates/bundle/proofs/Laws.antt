@@ -2,25 +2,25 @@
 -- Assumes nothing.
 use Prim.Native.Nat.{ℕ, zero, suc, ◌+◌, ◌*◌, ◌/◌, ◌-◌, ◌^◌, ◌≤◌, ◌<◌}
 use mathlib.Core.Path.{◌≡◌, refl, sym, ap, ◌∙◌}
-use mathlib.Core.Bool.{Bool, true, false, cond, not, ◌||◌, or-true}
+use mathlib.Core.Bool.{Bool, true, false, cond, not, ◌||◌}
 use mathlib.Core.List.{List, [], ◌++◌, append_assoc, append-nil}
 use native.Mathlib.Nat.{add-zero}
 use native.Mathlib.Numerals.{add-one}
 use native.Mathlib.Omega.{arith}
-use borrow.Author.Tests.{eq-eqb, ne_eqb, lt-ltb, le-ltb}
+use borrow.Author.Tests.{eq-eqb, le-ltb}
 use lib.ListN.{length, take, drop, length-append, take-append-drop}
 use lib.Seq.{length-take-le, take_at, drop-append-add, drop-drop}
-use lib.Dec.{ltb, eqb}
+use lib.Dec.{eqb}
 use Rattle.json_bytes.proofs.Laws.{by-test}
 use Rattle.parts.specs.Part.{part_of}
 use Rattle.parts.proofs.Laws.{part-is}
 use Rattle.bundle_bytes.specs.Words.{word_at, word_of}
 use Rattle.parts.specs.Files.{File, Left, Given, is_present, bytes_of, new_file}
 use Rattle.bundle_bytes.specs.Pieces.{joined, piece_start, written}
-use Rattle.bundle_bytes.proofs.Laws.{Bytes, word-past, word_small, word-length, changed-same, changed-other, written_back, written_behind, joined-next, start-next, joined_length, start-end}
-use Rattle.bundle_layout.specs.Bundle.{header_size, offset_at, length_at, is_omitted, end_of, stands_right, laid_out_from, laid_out, bundle_fault, part_at, file_at, pieces_of, header_pair, header_of, bundle_of, bundle_length}
+use Rattle.bundle_bytes.proofs.Laws.{Bytes, word-past, word_small, word-length, written_back, written_behind, joined-next, start-next, joined_length, start-end}
+use Rattle.bundle_layout.specs.Bundle.{header_size, offset_at, length_at, is_omitted, end_of, stands_right, laid_out_from, bundle_fault, part_at, file_at, pieces_of, header_pair, header_of, bundle_of, bundle_length}
 use Rattle.bundle_layout.specs.Change.{files_after, try_fault, make_fault, output, output_of}
-use Rattle.bundle_layout.proofs.Laws.{omitted-offset, omitted-length, entry-start, header-length, length-after, try-none}
+use Rattle.bundle_layout.proofs.Laws.{omitted-offset, omitted-length, entry-start, header-length, length-after}
 use Rattle.bundle.specs.Answers.{change_of, tried_bundle, made_bundle}
 use Rattle.bundle.specs.declared.Made.{Made}
 
@@ -72,26 +72,6 @@ module _ (n : ℕ) (s : List ℕ) where
       none : n - k ≡ 0
       none = omega arith
 
--- ---- The refusals
-module _ (n : ℕ) (s : List ℕ) where
-  pub is-long : 1048576 < length s → 1 ≡ bundle_fault n s
-  unfolding bundle_fault
-  is-long l = rw (lt-ltb 1048576 (length s) l, or-true (ltb (length s) (header_size n)))
-
-  pub is-short : length s < 4 + 8 * n → 1 ≡ bundle_fault n s
-  unfolding bundle_fault header_size
-  is-short l = rw (lt-ltb (length s) (4 + 8 * n) l)
-
-  -- with a length that is right, the rest of the tests decides
-  module _ (l : 4 + 8 * n ≤ length s) (h : length s ≤ 1048576) where
-    pub count-wrong : {w : ℕ} → w ≡ word_at s 0 → (w ≡ n → ⊥) → 2 ≡ bundle_fault n s
-    unfolding bundle_fault header_size
-    count-wrong {w} e q = rw (le-ltb (length s) (4 + 8 * n) l, le-ltb 1048576 (length s) h, ← e, ne_eqb w n q)
-
-    pub layout-decides : {w : ℕ} → w ≡ word_at s 0 → w ≡ n → (b : Bool) → laid_out n s ≡ b → cond b 0 3 ≡ bundle_fault n s
-    unfolding bundle_fault header_size
-    layout-decides {w} e q b d = rw (le-ltb (length s) (4 + 8 * n) l, le-ltb 1048576 (length s) h, ← e, eq-eqb w n q, d)
-
 -- ---- The files
 -- a file's numbers give its part, also one that is omitted
 pub part-read : (s : List ℕ) (k : ℕ) {from size : ℕ} → from ≡ offset_at s k → size ≡ length_at s k → part_of s from (from + size) ≡ bytes_of (file_at s k)
@@ -100,16 +80,6 @@ part-read s k e q =
     rw (e, q) (by-test (λ f. part_at s k ≡ bytes_of f) (is_omitted s k) Left (Given (part_at s k))
     (λ d. rw (omitted-offset s k d, omitted-length s k d) (part-is s 0 0 (omega arith) (omega arith))) (λ d. refl))
 
--- after a change of file k the others are as they were
-module _ (s : List ℕ) (k : ℕ) (f : File) (i : ℕ) where
-  pub file-same : i ≡ k → files_after s k f i ≡ f
-  unfolding files_after
-  file-same e = rw e (changed-same (file_at s) k f)
-
-  pub file-other : (i ≡ k → ⊥) → files_after s k f i ≡ file_at s i
-  unfolding files_after
-  file-other n = changed-other (file_at s) k f i n
-
 pub shown-present : (s : List ℕ) (i : ℕ) → not (is_omitted s i) ≡ is_present (file_at s i)
 unfolding file_at is_present
 shown-present s i = go (is_omitted s i)
@@ -117,11 +87,6 @@ shown-present s i = go (is_omitted s i)
     go : (t : Bool) → not t ≡ is_present (cond t Left (Given (part_at s i)))
     go true = refl
     go false = refl
-
-pub shown-new : (present : Bool) (bytes : List ℕ) → is_present (new_file present bytes) ≡ present
-unfolding is_present new_file
-shown-new true bytes = refl
-shown-new false bytes = refl
 
 -- ---- The length after a change
 module _ (n : ℕ) (s : List ℕ) (accepted : bundle_fault n s ≡ 0) (k : ℕ) (l : k < n) {p : List ℕ} (q : p ≡ bytes_of (file_at s k)) where
@@ -234,14 +199,6 @@ module _ (n : ℕ) (s : List ℕ) (k : ℕ) (f : File) {t : Made} (e : t ≡ tri
   unfolding tried_bundle change_of
   tried-fault = ap (λ m. m.refusal) e
 
-  -- refused as it was when tried
-  pub made-refused : (out : List ℕ) → (t.refusal ≡ 0 → ⊥) → (t ≡ made_bundle n s k f (length out)) × (out ≡ output n s k f out)
-  unfolding made_bundle tried_bundle make_fault output
-  made-refused out h = (e ∙ rw not-fine, rw (not-fine, not-fine))
-    where
-      not-fine : eqb (try_fault n s k f) 0 ≡ false
-      not-fine = ne_eqb (try_fault n s k f) 0 (λ q. h (tried-fault ∙ q))
-
   module _ (fine : t.refusal ≡ 0) where
     fine-fault : try_fault n s k f ≡ 0
     fine-fault = sym tried-fault ∙ fine
@@ -250,19 +207,7 @@ module _ (n : ℕ) (s : List ℕ) (k : ℕ) (f : File) {t : Made} (e : t ≡ tri
     unfolding tried_bundle change_of
     tried-length = ap (λ m. m.length) e ∙ rw (eq-eqb _ 0 fine-fault)
 
-    pub made-small : bundle_length n (files_after s k f) ≤ 1048576
-    made-small = (try-none n s k f fine-fault).2
-
     module _ (out : List ℕ) where
-      full : length out < t.length → make_fault n s k f (length out) ≡ 5
-      unfolding make_fault
-      full l = rw (eq-eqb _ 0 fine-fault, lt-ltb (length out) _ (rw tried-length at l))
-
-      -- refused for want of room
-      pub made-full : length out < t.length → (record { refusal = 5; length = 0 } ≡ made_bundle n s k f (length out)) × (out ≡ output n s k f out)
-      unfolding made_bundle change_of output
-      made-full l = (rw (full l), rw (full l))
-
       module _ (l : t.length ≤ length out) where
         pub made-room : bundle_length n (files_after s k f) ≤ length out
         made-room = rw tried-length at l

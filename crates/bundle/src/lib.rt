@@ -1,6 +1,6 @@
 // The bundle: its layout, its files as parts of it, and the bundle that a change makes of it. All
 // of it over the count n of the files, 20 for a set.
-#![tactic(auto)]
+#![tactic(auto, unfolding(bundle_layout::specs::Bundle::header_size, bundle_layout::specs::Bundle::offset_at, bundle_layout::specs::Bundle::length_at, bundle_layout::specs::Bundle::is_omitted, bundle_layout::specs::Bundle::bundle_fault, bundle_layout::specs::Bundle::lookup_fault, bundle_layout::specs::Bundle::part_asked, bundle_layout::specs::Bundle::file_at, bundle_layout::specs::Change::files_after, bundle_layout::specs::Change::try_fault, bundle_layout::specs::Change::make_fault, bundle_layout::specs::Change::output, bundle_bytes::specs::Pieces::changed, parts::specs::Files::bytes_of, parts::specs::Files::is_present, parts::specs::Files::new_file, crate::specs::Answers::state_asked, crate::specs::Answers::change_of, crate::specs::Answers::tried_bundle, crate::specs::Answers::made_bundle,))]
 
 ghost use Rattle.std.specs.Prelude.{◌≡◌, cond, ◌||◌, ◌++◌, ◌+◌, ◌*◌, ◌^◌, ◌≤◌, ◌<◌, length, take, drop, eqb};
 ghost use Rattle.bundle_bytes.specs.Words.{word_at, word_of};
@@ -54,20 +54,14 @@ pub fn length_at(s: &[u8], k: usize) -> usize
 pub fn is_omitted(s: &[u8], k: usize) -> bool
     ensures { result ≡ is_omitted s.now k }
 {
-    if offset_at(s, k) == 0 {
-        return length_at(s, k) == 0;
-    }
-    false
+    offset_at(s, k) == 0 && length_at(s, k) == 0
 }
 
 // Whether file k is omitted or starts where the files before it end.
 fn stands_right(s: &[u8], k: usize, end: usize) -> bool
     ensures { result ≡ is_omitted s.now k || eqb (offset_at s.now k) end }
 {
-    if is_omitted(s, k) {
-        return true;
-    }
-    offset_at(s, k) == end
+    is_omitted(s, k) || offset_at(s, k) == end
 }
 
 // Whether every file stands behind the ones before it, and the bundle ends with the last.
@@ -76,14 +70,11 @@ fn is_laid_out(s: &[u8], n: usize) -> bool
     ensures { result ≡ laid_out n s.now }
 {
     let mut end = 4 + 8 * n;
-    let mut k = 0;
-    while k < n {
-        if stands_right(s, k, end) {
-            end += length_at(s, k);
-            k += 1;
-        } else {
+    for k in 0..n {
+        if !stands_right(s, k, end) {
             return false;
         }
+        end += length_at(s, k);
     }
     end == s.len()
 }
@@ -92,22 +83,15 @@ fn is_laid_out(s: &[u8], n: usize) -> bool
 pub fn bundle_fault(s: &[u8], n: usize) -> u32
     ensures { result ≡ bundle_fault n s.now }
 {
-    if 1048576 < s.len() {
-        return 1;
+    if 1048576 < s.len() || 131072 < n || s.len() < 4 + 8 * n {
+        1
+    } else if word_at(s, 0) as usize != n {
+        2
+    } else if is_laid_out(s, n) {
+        0
+    } else {
+        3
     }
-    if 131072 < n {
-        return 1;
-    }
-    if s.len() < 4 + 8 * n {
-        return 1;
-    }
-    if word_at(s, 0) as usize != n {
-        return 2;
-    }
-    if is_laid_out(s, n) {
-        return 0;
-    }
-    3
 }
 
 // File k's part of a bundle; empty where it has none.
@@ -123,14 +107,11 @@ pub fn part_at(s: &[u8], k: usize) -> &[u8]
 pub fn lookup_fault(s: &[u8], n: usize, k: usize) -> u32
     ensures { result ≡ lookup_fault n s.now k }
 {
-    let refusal = bundle_fault(s, n);
-    if refusal != 0 {
-        return refusal;
+    match bundle_fault(s, n) {
+        0 if k < n => 0,
+        0 => 4,
+        refusal => refusal,
     }
-    if k < n {
-        return 0;
-    }
-    4
 }
 
 // File k as the part of the bundle itself; empty for an omitted file and a refusal.
@@ -138,23 +119,21 @@ pub fn file_part(s: &[u8], n: usize, k: usize) -> &[u8]
     ensures { result.now ≡ part_asked n s.now k }
 {
     if lookup_fault(s, n, k) != 0 {
-        return &s[..0];
+        &[]
+    } else {
+        part_at(s, k)
     }
-    part_at(s, k)
 }
 
 // Which of the three that part stands for.
 pub fn file_state(s: &[u8], n: usize, k: usize) -> FileState
     ensures { result ≡ state_asked n s.now k }
 {
-    let number = lookup_fault(s, n, k);
-    if number != 0 {
-        return FileState::Refused { number };
+    match lookup_fault(s, n, k) {
+        0 if is_omitted(s, k) => FileState::Omitted,
+        0 => FileState::Present,
+        number => FileState::Refused { number },
     }
-    if is_omitted(s, k) {
-        return FileState::Omitted;
-    }
-    FileState::Present
 }
 
 // File i as it stands after a change of file k: a part of the bundle or of the new bytes.
@@ -162,21 +141,18 @@ pub fn part_after<'a>(s: &'a [u8], k: usize, present: bool, new: &'a [u8], i: us
     ensures { result.now ≡ bytes_of (files_after s.now k (new_file present new.now) i) }
 {
     if i != k {
-        return part_at(s, i);
+        part_at(s, i)
+    } else if present {
+        new
+    } else {
+        &[]
     }
-    if present {
-        return new;
-    }
-    &new[..0]
 }
 
 pub fn is_present_after<'a>(s: &'a [u8], k: usize, present: bool, new: &'a [u8], i: usize) -> bool
     ensures { result ≡ is_present (files_after s.now k (new_file present new.now) i) }
 {
-    if i != k {
-        return !is_omitted(s, i);
-    }
-    present
+    if i != k { !is_omitted(s, i) } else { present }
 }
 
 // The length of the bundle after a change of file k, from the bundle's own and the two parts'.
@@ -185,10 +161,7 @@ fn length_after<'a>(s: &'a [u8], n: usize, k: usize, present: bool, new: &'a [u8
     ensures { result ≡ bundle_length n (files_after s.now k (new_file present new.now)) }
 {
     let rest = s.len() - part_at(s, k).len();
-    if present {
-        return rest + new.len();
-    }
-    rest
+    if present { rest + new.len() } else { rest }
 }
 
 // Tries a change: its refusal, 1, 2, 3, 4 or 6, or the length of the bundle that it would make.
@@ -214,10 +187,7 @@ fn offset_shown(there: bool, end: usize) -> u32
     requires { end < 2 ^ 32 }
     ensures { result ≡ cond there end 0 }
 {
-    if there {
-        return end as u32;
-    }
-    0
+    if there { end as u32 } else { 0 }
 }
 
 // Writes what the header has for file i: its offset and its length.
@@ -236,13 +206,11 @@ fn put_header<'a>(s: &'a [u8], n: usize, k: usize, present: bool, new: &'a [u8],
 {
     put_word(out, 0, n as u32);
     let mut end = 4 + 8 * n;
-    let mut i = 0;
-    while i < n {
+    for i in 0..n {
         let size = part_after(s, k, present, new, i).len();
         let there = is_present_after(s, k, present, new, i);
         put_entry(out, i, there, end, size);
         end += size;
-        i += 1;
     }
 }
 
@@ -252,12 +220,10 @@ fn put_files<'a>(s: &'a [u8], n: usize, k: usize, present: bool, new: &'a [u8], 
     ensures { out.new ≡ take (header_size n) out.old ++ joined (pieces_of (files_after s.now k (new_file present new.now))) n ++ drop (bundle_length n (files_after s.now k (new_file present new.now))) out.old }
 {
     let mut end = 4 + 8 * n;
-    let mut i = 0;
-    while i < n {
+    for i in 0..n {
         let file = part_after(s, k, present, new, i);
         put_part(out, end, file);
         end += file.len();
-        i += 1;
     }
 }
 

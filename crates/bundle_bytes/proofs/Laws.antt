@@ -13,7 +13,7 @@ use borrow.Author.Tests.{le-leb, lt-leb, leb-true, eq-eqb, ne_eqb}
 use mir.Syntax.{w8}
 use mir.Val.{Fits}
 use lib.ListN.{length, get_or, set, take, drop, length-append, length-drop, take-append-drop, get_or-eq_default}
-use lib.Seq.{paste, paste-suc, sets-eq, take_all, take-length, take_at, drop_at, take-append_seam, drop-append_seam, take-append-le, drop-append-le, drop-append-add, drop-drop, get_or-take, get_or-drop, length-take-le, take-take}
+use lib.Seq.{paste, paste-suc, take_all, take-length, take_at, drop_at, take-append_seam, drop-append_seam, take-append-le, drop-append-le, drop-append-add, drop-drop, get_or-take, get_or-drop, length-take-le, take-take}
 use lib.Dec.{leb, eqb}
 use Rattle.bundle_bytes.specs.Words.{word_at, word_of}
 use Rattle.bundle_bytes.specs.Pieces.{joined, piece_start, changed, written}
@@ -106,22 +106,6 @@ pub word-past : (s : List ℕ) (i : ℕ) → length s ≤ i → 0 ≡ word_at s 
 unfolding word_at
 word-past s i l =
     rw (get_or-eq_default s 0 l, get_or-eq_default s 0 {n = i + 1} (omega arith), get_or-eq_default s 0 {n = i + 2} (omega arith), get_or-eq_default s 0 {n = i + 3} (omega arith))
-
--- the four stores of a number
-pub word-stored : (d : List ℕ) (at x : ℕ) → at + 4 ≤ length d → set (set (set (set d at (x % 256)) (at + 1) (x / 256 % 256)) (at + 2) (x / 65536 % 256)) (at + 3) (x / 16777216 % 256) ≡ written d at (word_of x)
-unfolding word_of
-word-stored d at x l = rw (add-two, add-three, add-one at) (sets-eq (word_of x) d at l ∙ sym (written-fits d at (word_of x) l))
-  where
-    add-two : at + 2 ≡ suc (suc at)
-    add-two = omega arith
-
-    add-three : at + 3 ≡ suc (suc (suc at))
-    add-three = omega arith
-
--- the number that the bytes read one by one come to
-pub word_read : (s : List ℕ) (i : ℕ) {a b c d a' b' c' d' : ℕ} → a ≡ get_or s i 0 → b ≡ get_or s (i + 1) 0 → c ≡ get_or s (i + 2) 0 → d ≡ get_or s (i + 3) 0 → a' ≡ a → b' ≡ b → c' ≡ c → d' ≡ d → a' + b' * 256 + c' * 65536 + d' * 16777216 ≡ word_at s i
-unfolding word_at
-word_read s i e f g h e' f' g' h' = rw (e' ∙ e, f' ∙ f, g' ∙ g, h' ∙ h)
 
 -- as the elements of a slice of bytes are known: each is below 256, and past the end stands 0
 abbrev pub Bytes : List ℕ → Type 0

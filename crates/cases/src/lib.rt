@@ -21,17 +21,11 @@ const MOST_MARKS: usize = 96;
 
 // Fills the front of a buffer, where it is long enough.
 pub fn fill_front(rt: &impl Host, buf: &mut [u8], n: usize) -> bool {
-    if buf.len() < n {
-        return false;
-    }
-    fill(&mut rt.input(), &mut buf[..n])
+    n <= buf.len() && fill(&mut rt.input(), &mut buf[..n])
 }
 
 pub fn write_part(rt: &impl Host, bytes: &[u8]) -> bool {
-    if bytes.len() == 0 {
-        return true;
-    }
-    write_out(rt, bytes)
+    bytes.is_empty() || write_out(rt, bytes)
 }
 
 // The lowest 32 bits of a number.
@@ -53,10 +47,8 @@ fn pattern(seed: usize, i: usize) -> u8 {
 
 // Puts a pattern into an output, by which a test sees what was written over it.
 pub fn lay(out: &mut [u8], seed: usize) {
-    let mut i = 0;
-    while i < out.len() {
-        out[i] = pattern(seed, i);
-        i += 1;
+    for (i, byte) in out.iter_mut().enumerate() {
+        *byte = pattern(seed, i);
     }
 }
 
@@ -64,27 +56,23 @@ pub fn lay(out: &mut [u8], seed: usize) {
 
 // Takes the lists of a board from three numbers for each mark, as many as there is room for.
 pub fn get_marks(bytes: &[u8], kinds: &mut [u32], places: &mut [usize], companions: &mut [usize]) {
-    let mut m = 0;
-    while m < MOST_MARKS {
+    for m in 0..MOST_MARKS {
         let mark = Mark {
             kind: word_at(bytes, 12 * m),
             place: word_at(bytes, 12 * m + 4) as usize,
             companion: word_at(bytes, 12 * m + 8) as usize,
         };
         put_mark(m, mark, kinds, places, companions);
-        m += 1;
     }
 }
 
 // Puts them as three numbers for each mark behind the first twelve bytes, which are for what else is answered.
 pub fn put_marks(out: &mut [u8], kinds: &[u32], places: &[usize], companions: &[usize]) {
-    let mut m = 0;
-    while m < MOST_MARKS {
+    for m in 0..MOST_MARKS {
         let mark = mark_in(kinds, places, companions, m);
         put_word(out, 12 * m + 12, mark.kind);
         put_word(out, 12 * m + 16, low(mark.place));
         put_word(out, 12 * m + 20, low(mark.companion));
-        m += 1;
     }
 }
 
@@ -115,10 +103,7 @@ pub fn write_board(rt: &impl Host, refusal: u32, board: Board) -> bool {
 
 // The same with a length between them.
 pub fn write_sized(rt: &impl Host, refusal: u32, length: usize, board: Board) -> bool {
-    if write_number(rt, refusal) {
-        return write_board(rt, low(length), board);
-    }
-    false
+    write_number(rt, refusal) && write_board(rt, low(length), board)
 }
 
 // ---- A file, and a reason
@@ -133,8 +118,7 @@ fn state_number(state: FileState) -> u32 {
 
 fn state_refusal(state: FileState) -> u32 {
     match state {
-        FileState::Present => 0,
-        FileState::Omitted => 0,
+        FileState::Present | FileState::Omitted => 0,
         FileState::Refused { number } => number,
     }
 }
@@ -146,10 +130,7 @@ pub fn write_file(rt: &impl Host, state: FileState, file: &[u8]) -> bool {
     put_word(&mut out, 0, state_number(state));
     put_word(&mut out, 4, state_refusal(state));
     put_word(&mut out, 8, low(file.len()));
-    if write_out(rt, &out) {
-        return write_part(rt, file);
-    }
-    false
+    write_out(rt, &out) && write_part(rt, file)
 }
 
 fn put_record(out: &mut [u8], tag: u32, shown: Shown) {

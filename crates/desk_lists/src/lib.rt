@@ -1,7 +1,7 @@
 // One desk judged on the joined set (document 02, order 10), over what a caller lends: a workspace, and
 // lists for the marks. The set's files are read where they stand: the desk's own in its bundle, the
 // calendars in theirs, and a changed file in the new bytes.
-#![tactic(auto)]
+#![tactic(auto, unfolding(crate::specs::Seen::is_seen, desks_calls::specs::Join::or_else))]
 
 ghost use Rattle.std.specs.Prelude.{◌≡◌, cond, List, ℕ, ◌+◌, ◌≤◌, ◌<◌, ◌/◌, length, ltb};
 ghost use Rattle.parts.specs.Files.{new_file};
@@ -31,10 +31,7 @@ use standing::place;
 fn slice_number(absent: bool, number: usize) -> usize
     ensures { result ≡ cond absent 0 number }
 {
-    if absent {
-        return 0;
-    }
-    number
+    if absent { 0 } else { number }
 }
 
 // Puts down where file k of a bundle stands, by the number of the bundle's slice.
@@ -52,14 +49,11 @@ fn stand_join(desk: &[u8], shared: &[u8], stand: &mut [usize])
     requires { 20 ≤ length stand.old / 3 }
     ensures { (new : List ℕ) (i : ℕ) → i < 20 → standing desk.now shared.now new stand.new i ≡ joined_set desk.now shared.now i }
 {
-    let mut k = 0;
-    while k < 20 {
+    for k in 0..20 {
         if is_shared(k) {
             stand_file(shared, 2, k, stand);
-            k += 1;
         } else {
             stand_file(desk, 1, k, stand);
-            k += 1;
         }
     }
 }
@@ -68,10 +62,11 @@ fn stand_join(desk: &[u8], shared: &[u8], stand: &mut [usize])
 fn join_refusal(desk: &[u8], shared: &[u8], fault: u32) -> u32
     ensures { result ≡ or_else fault (join_fault 20 desk.now shared.now) }
 {
-    if fault != 0 {
-        return fault;
+    if fault == 0 {
+        join_fault(desk, shared)
+    } else {
+        fault
     }
-    join_fault(desk, shared)
 }
 
 // Judges a desk in full in a lent workspace, whatever that holds: its marks go to the lists.
@@ -116,10 +111,7 @@ pub fn judge_joined_lists<'a>(
 fn new_number(present: bool) -> usize
     ensures { result ≡ cond present 3 0 }
 {
-    if present {
-        return 3;
-    }
-    0
+    if present { 3 } else { 0 }
 }
 
 // Judges again the marks that read file k, from the joined set as it stands after the change.
@@ -158,11 +150,7 @@ fn judge_again<'a>(
 fn sees(seen: Seen) -> bool
     ensures { result ≡ is_seen seen }
 {
-    match seen {
-        Seen::Nothing => false,
-        Seen::Own => true,
-        Seen::Shared => true,
-    }
+    matches!(seen, Seen::Own | Seen::Shared)
 }
 
 // Answers one desk: its refusal or 0. The lists get its marks after a change that it sees, unless it is

@@ -1,6 +1,6 @@
 // Why a desk is refused (document 02, order 10): by its own bundle, by the calendars, or by a change that it
 // sees.
-#![tactic(auto)]
+#![tactic(auto, unfolding(desks_calls::specs::Join::is_shared, desks_calls::specs::Join::may_hold, desks_calls::specs::Join::holds_only, desks_calls::specs::Join::or_else, desks_calls::specs::Join::join_fault, desks_calls::specs::Join::change_fault, desks_calls::specs::Desks::sight_of, desks_calls::specs::Desks::sight_fault, desks_calls::specs::Desks::desk_fault, bundle::specs::Answers::tried_bundle, bundle::specs::Answers::change_of, bundle_layout::specs::Change::make_fault, bundle_layout::specs::Bundle::file_at, parts::specs::Files::is_present))]
 
 ghost use Rattle.std.specs.Prelude.{◌≡◌, not, ◌&&◌, ◌||◌, ltb};
 ghost use Rattle.parts.specs.Files.{is_present, new_file};
@@ -15,40 +15,28 @@ use desks_calls::Seen;
 pub fn is_shared(k: usize) -> bool
     ensures { result ≡ is_shared k }
 {
-    if k < 6 {
-        return false;
-    }
-    k <= 8
+    (6..=8).contains(&k)
 }
 
 fn may_hold(calendars: bool, k: usize) -> bool
     ensures { result ≡ may_hold calendars k }
 {
-    if calendars {
-        return is_shared(k);
-    }
-    !is_shared(k)
+    is_shared(k) == calendars
 }
 
 // Whether file k is omitted or may stand in this bundle.
 fn stands_well(s: &[u8], calendars: bool, k: usize) -> bool
     ensures { result ≡ not (is_present (file_at s.now k)) || may_hold calendars k }
 {
-    if is_omitted(s, k) {
-        return true;
-    }
-    may_hold(calendars, k)
+    is_omitted(s, k) || may_hold(calendars, k)
 }
 
 // Whether a bundle holds only what it may.
 fn holds_only(s: &[u8], calendars: bool) -> bool
     ensures { result ≡ holds_only calendars (file_at s.now) 20 }
 {
-    let mut k = 0;
-    while k < 20 {
-        if stands_well(s, calendars, k) {
-            k += 1;
-        } else {
+    for k in 0..20 {
+        if !stands_well(s, calendars, k) {
             return false;
         }
     }
@@ -67,23 +55,18 @@ pub fn join_fault(desk: &[u8], shared: &[u8]) -> u32
     if common != 0 {
         return common;
     }
-    if !holds_only(desk, false) {
-        return 9;
+    if holds_only(desk, false) && holds_only(shared, true) {
+        0
+    } else {
+        9
     }
-    if !holds_only(shared, true) {
-        return 9;
-    }
-    0
 }
 
 // Whether a bundle may not hold file k; a number that is no file's is another matter.
 fn is_barred(calendars: bool, k: usize) -> bool
     ensures { result ≡ ltb k 20 && not (may_hold calendars k) }
 {
-    if 20 <= k {
-        return false;
-    }
-    !may_hold(calendars, k)
+    k < 20 && !may_hold(calendars, k)
 }
 
 // The refusal of a change of a bundle that is none itself: 4, 9, 6 or 5.
@@ -101,14 +84,11 @@ fn change_fault<'a>(
         return 9;
     }
     let made = try_bundle(s, 20, k, present, new);
-    let refusal = made.refusal;
-    if refusal != 0 {
-        return refusal;
+    if made.refusal == 0 && room < made.length {
+        5
+    } else {
+        made.refusal
     }
-    if room < made.length {
-        return 5;
-    }
-    0
 }
 
 // The refusal of a desk, or 0: by the bundles, then by the change, where it sees that.

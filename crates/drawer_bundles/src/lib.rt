@@ -1,5 +1,5 @@
 // A bundle put into a drawer, and the bundle of a drawer's files taken out.
-#![tactic(auto)]
+#![tactic(auto, unfolding(crate::specs::Bundles::put_fault, crate::specs::Bundles::bundle_put, crate::specs::Bundles::take_fault, crate::specs::Bundles::taken_bundle, crate::specs::Bundles::taken_out, bundle::specs::Answers::change_of, bundle_layout::specs::Bundle::header_size))]
 
 ghost use Rattle.std.specs.Prelude.{◌≡◌, cond, ◌++◌, ◌+◌, ◌*◌, ◌^◌, ◌≤◌, ◌<◌, length, take, drop};
 ghost use Rattle.bundle_bytes.specs.Words.{word_of};
@@ -17,20 +17,11 @@ use drawer_places::all_lengths;
 fn put_fault(d: &[u8], bundle: &[u8]) -> u32
     ensures { result ≡ put_fault 20 d.now bundle.now }
 {
-    let refusal = bundle_fault(bundle, 20);
-    if refusal != 0 {
-        return refusal;
+    match bundle_fault(bundle, 20) {
+        0 if d.len() < 164 || 1048576 < d.len() => 1,
+        0 if d.len() < bundle.len() => 11,
+        refusal => refusal,
     }
-    if d.len() < 164 {
-        return 1;
-    }
-    if 1048576 < d.len() {
-        return 1;
-    }
-    if d.len() < bundle.len() {
-        return 11;
-    }
-    0
 }
 
 // Puts a bundle into a drawer, whatever that held: its refusal, which leaves the drawer as it is, or 0.
@@ -60,10 +51,7 @@ fn offset_shown(there: bool, end: usize) -> u32
     requires { end < 2 ^ 32 }
     ensures { result ≡ cond there end 0 }
 {
-    if there {
-        return end as u32;
-    }
-    0
+    if there { end as u32 } else { 0 }
 }
 
 // Writes what the header has for file i: its offset and its length.
@@ -82,12 +70,10 @@ fn put_header(d: &[u8], out: &mut [u8])
 {
     put_word(out, 0, 20);
     let mut end = 164;
-    let mut i = 0;
-    while i < 20 {
+    for i in 0..20 {
         let size = part_at(d, i).len();
         put_entry(out, i, !is_omitted(d, i), end, size);
         end += size;
-        i += 1;
     }
 }
 
@@ -97,12 +83,10 @@ fn put_files(d: &[u8], out: &mut [u8])
     ensures { out.new ≡ take (header_size 20) out.old ++ joined (pieces_of (file_at d.now)) 20 ++ drop (bundle_length 20 (file_at d.now)) out.old }
 {
     let mut end = 164;
-    let mut i = 0;
-    while i < 20 {
+    for i in 0..20 {
         let file = part_at(d, i);
         put_part(out, end, file);
         end += file.len();
-        i += 1;
     }
 }
 

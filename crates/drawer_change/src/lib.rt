@@ -1,6 +1,6 @@
 // A change made in a drawer: the files moved down where no gap is long enough, the new bytes at
 // their place, and the header. Nothing else is written.
-#![tactic(auto)]
+#![tactic(auto, unfolding(drawer_layout::specs::Places::places_moved_down, drawer_held::specs::Drawer::drawer_made, bundle_layout::specs::Bundle::header_size))]
 
 ghost use Rattle.std.specs.Prelude.{◌≡◌, ◌++◌, ◌+◌, ◌*◌, ◌^◌, ◌≤◌, ◌<◌, length, drop, set};
 ghost use Rattle.parts.specs.Files.{new_file};
@@ -20,10 +20,8 @@ fn moved_places(offs: &[u32], lens: &[u32], out: &mut [u32])
     requires { (164 + all_lengths 20 lens.now < 2 ^ 32) × (length out.old ≡ 20) }
     ensures { out.new ≡ places_moved_down 20 offs.now lens.now }
 {
-    let mut i = 0;
-    while i < 20 {
-        out[i] = moved_to(offs, lens, i) as u32;
-        i += 1;
+    for (i, place) in out.iter_mut().enumerate() {
+        *place = moved_to(offs, lens, i) as u32;
     }
 }
 
@@ -42,12 +40,10 @@ fn put_header(d: &mut [u8], offs: &[u32], lens: &[u32])
     ensures { d.new ≡ header_at 20 offs.now lens.now ++ drop 164 d.old }
 {
     put_word(d, 0, 20);
-    let mut i = 0;
-    while i < 20 {
+    for i in 0..20 {
         let offset = number_in(offs, i);
         let size = number_in(lens, i);
         put_entry(d, i, offset, size);
-        i += 1;
     }
 }
 

@@ -1,6 +1,6 @@
 -- What is known of a drawer that is not refused, and of the lengths after a change of it.
 -- Assumes nothing.
-use Prim.Native.Nat.{ℕ, zero, suc, ◌+◌, ◌*◌, ◌-◌, ◌≤◌, ◌<◌}
+use Prim.Native.Nat.{ℕ, zero, suc, ◌+◌, ◌*◌, ◌≤◌, ◌<◌}
 use mathlib.Core.Path.{◌≡◌, refl, sym, ap, ◌∙◌}
 use mathlib.Core.Bool.{Bool, true, false, cond, ◌||◌}
 use mathlib.Core.Logic.{◌⊎◌, ⊎_elim}
@@ -9,7 +9,7 @@ use native.Mathlib.Nat.{add-sub_cancel_left, zero-add}
 use native.Mathlib.Numerals.{add-one}
 use native.Mathlib.Omega.{arith}
 use borrow.Author.Tests.{ltb-true, ltb-false, eqb-true, eqb-false, lt-ltb, le-ltb, eq-eqb, ne_eqb}
-use lib.ListN.{length, get_or, take, drop, set, length-append, length-drop}
+use lib.ListN.{length, get_or, take, drop, set, length-drop}
 use lib.Seq.{get_or-set_same, get_or-set_other, drop-length, set-append_seam, append_snoc, drop-cons, length-take-le}
 use lib.Dec.{ltb, eqb}
 use Rattle.json_bytes.proofs.Laws.{by-test}
@@ -21,12 +21,11 @@ use Rattle.bundle_bytes.proofs.Laws.{changed-same, changed-other}
 use Rattle.bundle_layout.specs.Bundle.{header_size, offset_at, length_at, is_omitted, part_at, file_at, pieces_of, bundle_length}
 use Rattle.bundle_layout.specs.Change.{files_after}
 use Rattle.bundle_layout.proofs.Laws.{omitted-length}
-use Rattle.bundle.specs.declared.FileState.TheVariants.{Present, Omitted, Refused}
 use Rattle.drawer_layout.specs.Places.{total, list_of, all_lengths, stand_apart}
 use Rattle.drawer_layout.proofs.Laws.{Laid, laid}
 use Rattle.drawer_moves.specs.Painted.{part_in}
 use Rattle.drawer_moves.proofs.Sums.{total-step, list_at, list_length}
-use Rattle.drawer_held.specs.Drawer.{header_number, offsets_of, lengths_of, drawer_fault, held_fault, part_held, state_held, drawer_change_fault, lengths_freed}
+use Rattle.drawer_held.specs.Drawer.{header_number, offsets_of, lengths_of, drawer_fault, held_fault, part_held, drawer_change_fault, lengths_freed}
 
 -- ---- numbers read into a list, one more with each turn
 abbrev pub Filled : (ℕ → ℕ) → ℕ → List ℕ → List ℕ → Type 0
@@ -37,9 +36,6 @@ module _ (h : ℕ → ℕ) (old : List ℕ) where
   unfolding list_of
   fill_start = refl
 
-  pub fill-length : (i : ℕ) {out : List ℕ} → i ≤ length old → Filled h i old out → length out ≡ length old
-  fill-length i l e = rw (e, length-append (list_of h i) (drop i old)) (omega (arith, list_length h i, length-drop i old))
-
   pub fill-turn : (i : ℕ) {x : ℕ} {out : List ℕ} → i < length old → Filled h i old out → x ≡ h i → Filled h (i + 1) old (set out i x)
   unfolding list_of
   fill-turn i {x} l e q =
@@ -48,10 +44,6 @@ module _ (h : ℕ → ℕ) (old : List ℕ) where
 
   pub fill_end : (i : ℕ) {out : List ℕ} → i ≡ length old → Filled h i old out → out ≡ list_of h (length old)
   fill_end i e q = q ∙ rw e (ap (λ r. list_of h (length old) ++ r) (drop-length old) ∙ append-nil (list_of h (length old)))
-
-pub first_small : (lengths : Bool) {at : ℕ} → at ≡ cond lengths 8 4 → at ≤ 8
-first_small true e = omega arith
-first_small false e = omega arith
 
 -- the number that a turn reads
 pub number_read : (d : List ℕ) (lengths : Bool) (i : ℕ) {at x : ℕ} → at ≡ cond lengths 8 4 → x ≡ word_at d (at + 8 * i) → x ≡ header_number d lengths i
@@ -95,35 +87,15 @@ module _ (n : ℕ) (d : List ℕ) (k : ℕ) {x : ℕ} (e : x ≡ drawer_fault n 
   unfolding held_fault
   held-fine z l = rw (eq-eqb (drawer_fault n d) 0 (sym e ∙ z), lt-ltb k n l)
 
-  pub held-over : x ≡ 0 → n ≤ k → 4 ≡ held_fault n d k
-  unfolding held_fault
-  held-over z l = rw (eq-eqb (drawer_fault n d) 0 (sym e ∙ z), le-ltb k n l)
-
 module _ (n : ℕ) (d : List ℕ) (k : ℕ) {x : ℕ} (e : x ≡ held_fault n d k) where
   pub part-refused : (x ≡ 0 → ⊥) → [] ≡ part_held n d k
   unfolding part_held
   part-refused z = rw (ne_eqb (held_fault n d k) 0 (λ q. z (e ∙ q)))
 
-  pub part-there : {p : List ℕ} → x ≡ 0 → p ≡ bytes_of (file_at d k) → p ≡ part_held n d k
-  unfolding part_held
-  part-there z q = rw (eq-eqb (held_fault n d k) 0 (sym e ∙ z)) q
-
-  pub state-refused : (x ≡ 0 → ⊥) → Refused x ≡ state_held n d k
-  unfolding state_held
-  state-refused z = rw (ne_eqb (held_fault n d k) 0 (λ q. z (e ∙ q)), e)
-
-  pub state-there : {t : Bool} → x ≡ 0 → t ≡ is_omitted d k → cond t Omitted Present ≡ state_held n d k
-  unfolding state_held
-  state-there z q = rw (eq-eqb (held_fault n d k) 0 (sym e ∙ z), q)
-
   module _ (f : File) where
     pub change-refused : (x ≡ 0 → ⊥) → x ≡ drawer_change_fault n d k f
     unfolding drawer_change_fault
     change-refused z = rw (ne_eqb (held_fault n d k) 0 (λ q. z (e ∙ q))) e
-
-    pub change-full : {y : ℕ} → x ≡ 0 → y ≡ bundle_length n (files_after d k f) → length d < y → 11 ≡ drawer_change_fault n d k f
-    unfolding drawer_change_fault
-    change-full z q l = rw (eq-eqb (held_fault n d k) 0 (sym e ∙ z), lt-ltb (length d) (bundle_length n (files_after d k f)) (rw q at l))
 
     pub change-fine : {y : ℕ} → x ≡ 0 → y ≡ bundle_length n (files_after d k f) → y ≤ length d → 0 ≡ drawer_change_fault n d k f
     unfolding drawer_change_fault
@@ -179,9 +151,6 @@ module _ (n : ℕ) (d : List ℕ) (fine : drawer_fault n d ≡ 0) where
   drawer-size =
       let s = neither (ltb (length d) (header_size n)) (ltb 1048576 (length d)) tests.0 in
       (ltb-false (length d) (header_size n) s.0, ltb-false 1048576 (length d) s.1)
-
-  pub drawer-count : word_at d 0 ≡ n
-  drawer-count = eqb-true (word_at d 0) n tests.1
 
   pub drawer-laid : Laid n (offsets_of n d) (lengths_of n d) (length d)
   drawer-laid = laid n (offsets_of n d) (lengths_of n d) (length d) tests.2

@@ -1,5 +1,5 @@
 // A drawer's files, and whether a change of it is refused.
-#![tactic(auto)]
+#![tactic(auto, unfolding(crate::specs::Drawer::header_number, crate::specs::Drawer::offsets_of, crate::specs::Drawer::lengths_of, crate::specs::Drawer::drawer_fault, crate::specs::Drawer::held_fault, crate::specs::Drawer::part_held, crate::specs::Drawer::state_held, crate::specs::Drawer::drawer_change_fault, bundle_layout::specs::Bundle::header_size, bundle_layout::specs::Bundle::offset_at, bundle_layout::specs::Bundle::length_at, parts::specs::Files::bytes_of, parts::specs::Files::new_file))]
 
 ghost use Rattle.std.specs.Prelude.{◌≡◌, ◌<◌, ◌+◌, cond, length};
 ghost use Rattle.parts.specs.Files.{bytes_of, new_file};
@@ -18,10 +18,8 @@ pub fn read_numbers(d: &[u8], lengths: bool, out: &mut [u32])
     ensures { out.new ≡ list_of (header_number d.now lengths) (length out.old) }
 {
     let at = first_at(lengths);
-    let mut i = 0;
-    while i < out.len() {
-        out[i] = word_at(d, at + 8 * i);
-        i += 1;
+    for (i, number) in out.iter_mut().enumerate() {
+        *number = word_at(d, at + 8 * i);
     }
 }
 
@@ -29,20 +27,14 @@ pub fn read_numbers(d: &[u8], lengths: bool, out: &mut [u32])
 fn first_at(lengths: bool) -> usize
     ensures { result ≡ cond lengths 8 4 }
 {
-    if lengths {
-        return 8;
-    }
-    4
+    if lengths { 8 } else { 4 }
 }
 
 // The refusal of a drawer, 1, 2 or 3, or 0.
 pub fn drawer_fault(d: &[u8]) -> u32
     ensures { result ≡ drawer_fault 20 d.now }
 {
-    if 1048576 < d.len() {
-        return 1;
-    }
-    if d.len() < 164 {
+    if d.len() < 164 || 1048576 < d.len() {
         return 1;
     }
     if word_at(d, 0) != 20 {
@@ -53,57 +45,50 @@ pub fn drawer_fault(d: &[u8]) -> u32
     let mut lens = [0u32; 20];
     read_numbers(d, true, &mut lens);
     if stand_apart(&offs, &lens, d.len()) {
-        return 0;
+        0
+    } else {
+        3
     }
-    3
 }
 
 // The refusal of a question for file k, 1 to 4, or 0.
 pub fn held_fault(d: &[u8], k: usize) -> u32
     ensures { result ≡ held_fault 20 d.now k }
 {
-    let refusal = drawer_fault(d);
-    if refusal != 0 {
-        return refusal;
+    match drawer_fault(d) {
+        0 if k < 20 => 0,
+        0 => 4,
+        refusal => refusal,
     }
-    if k < 20 {
-        return 0;
-    }
-    4
 }
 
 // File k as the part of the drawer itself; empty for an omitted file and a refusal.
 pub fn held_part(d: &[u8], k: usize) -> &[u8]
     ensures { result.now ≡ part_held 20 d.now k }
 {
-    if held_fault(d, k) != 0 {
-        return &d[..0];
+    if held_fault(d, k) == 0 {
+        part_at(d, k)
+    } else {
+        &d[..0]
     }
-    part_at(d, k)
 }
 
 // Which of the three that part stands for.
 pub fn held_state(d: &[u8], k: usize) -> FileState
     ensures { result ≡ state_held 20 d.now k }
 {
-    let number = held_fault(d, k);
-    if number != 0 {
-        return FileState::Refused { number };
+    match held_fault(d, k) {
+        0 if is_omitted(d, k) => FileState::Omitted,
+        0 => FileState::Present,
+        number => FileState::Refused { number },
     }
-    if is_omitted(d, k) {
-        return FileState::Omitted;
-    }
-    FileState::Present
 }
 
 // The bytes that a change brings: none where the file is withdrawn.
 pub fn new_part(present: bool, new: &[u8]) -> &[u8]
     ensures { result.now ≡ bytes_of (new_file present new.now) }
 {
-    if present {
-        return new;
-    }
-    &new[..0]
+    if present { new } else { &new[..0] }
 }
 
 // 164 and the present lengths after a change.
@@ -122,11 +107,9 @@ pub fn change_fault<'a>(d: &'a [u8], k: usize, present: bool, new: &'a [u8]) -> 
     ensures { result ≡ drawer_change_fault 20 d.now k (new_file present new.now) }
 {
     let refusal = held_fault(d, k);
-    if refusal != 0 {
-        return refusal;
+    if refusal == 0 && d.len() < length_after(d, k, present, new) {
+        11
+    } else {
+        refusal
     }
-    if d.len() < length_after(d, k, present, new) {
-        return 11;
-    }
-    0
 }

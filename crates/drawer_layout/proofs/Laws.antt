@@ -2,13 +2,13 @@
 -- Assumes nothing.
 use Prim.Native.Nat.{ℕ, zero, suc, ◌+◌, ◌-◌, ◌≤◌, ◌<◌}
 use mathlib.Core.Path.{◌≡◌, refl, sym, ◌∙◌}
-use mathlib.Core.Bool.{Bool, true, false, not, ◌&&◌, ◌||◌, and-false, or-false}
+use mathlib.Core.Bool.{Bool, true, false, not, ◌&&◌, ◌||◌, and-false}
 use mathlib.Core.Logic.{◌⊎◌, inl, inr, ⊎_elim}
 use mathlib.Core.List.{List}
 use native.Mathlib.Nat.{eq-or-lt_of_le, le_of_suc-le-suc, add-zero}
 use native.Mathlib.Numerals.{add-one}
 use native.Mathlib.Omega.{arith}
-use borrow.Author.Tests.{ltb-true, ltb-false, leb-true, eqb-true, lt-ltb, le-leb, lt-leb, ne_eqb, not-true}
+use borrow.Author.Tests.{ltb-true, ltb-false, leb-true, eqb-true, lt-ltb, le-leb, ne_eqb, not-true}
 use lib.ListN.{get_or}
 use lib.Dec.{ltb, leb, eqb}
 use Rattle.json_bytes.proofs.Laws.{both_left, both_right}
@@ -49,22 +49,6 @@ module _ (p m q l : ℕ) where
       clash : true ≡ false → ⊥
       clash z = let y : ◌≡◌ {A = ℕ} 0 1 = cc in omega arith
 
-  -- as the code finds out
-  pub share-empty : m ≡ 0 → false ≡ share_byte p m q l
-  unfolding share_byte
-  share-empty e = rw e
-
-  pub share-other-empty : l ≡ 0 → false ≡ share_byte p m q l
-  unfolding share_byte
-  share-other-empty e = rw (e, and-false (ltb 0 m))
-
-  pub share-below : p + m ≤ q → false ≡ share_byte p m q l
-  share-below h = sym (not_so (share_byte p m q l) (λ e. omega (arith, (share-parts e).2)))
-
-  pub share-last : (m ≡ 0 → ⊥) → (l ≡ 0 → ⊥) → q < p + m → ltb p (q + l) ≡ share_byte p m q l
-  unfolding share_byte
-  share-last a b c = rw (lt-ltb 0 m (omega arith), lt-ltb 0 l (omega arith), lt-ltb q (p + m) c)
-
 -- ---- free bytes
 module _ (offs lens : List ℕ) (p m : ℕ) where
   pub free-next : (i : ℕ) → is_free offs lens p m i ≡ true → is_in_way offs lens p m i ≡ false → is_free offs lens p m (i + 1) ≡ true
@@ -90,20 +74,6 @@ module _ (offs lens : List ℕ) (p m : ℕ) where
   each_free zero f = refl
   each_free (suc n) f = rw (each_free n (λ i l. f i (omega arith)), f n (omega arith))
 
--- the search for a file in the way: a hit, a turn, the end
-module _ (offs lens : List ℕ) (n p m i : ℕ) where
-  module _ {t : Bool} {o l : ℕ} (free : is_free offs lens p m i ≡ true) (a : o ≡ get_or offs i 0) (b : l ≡ get_or lens i 0) (is : t ≡ share_byte p m o l) where
-    pub way-hit : i < n → t ≡ true → Way offs lens n p m i
-    unfolding is_in_way
-    way-hit h e = record { within = omega arith; free = free; met = λ _. rw (a, b) at (sym is ∙ e) }
-
-    pub way_next : t ≡ false → is_free offs lens p m (i + 1) ≡ true
-    unfolding is_in_way
-    way_next e = free-next offs lens p m i free (rw (a, b) at (sym is ∙ e))
-
-  pub way_end : i ≤ n → n ≤ i → is_free offs lens p m i ≡ true → Way offs lens n p m i
-  way_end l h free = record { within = l; free = free; met = λ k. absurd (omega arith) }
-
 -- ---- files that stand apart
 inside-parts : (n room o l : ℕ) → stands_inside n room o l ≡ true → ((o ≡ 0) × (l ≡ 0)) ⊎ ((header_size n ≤ o) × (o + l ≤ room))
 unfolding stands_inside
@@ -120,20 +90,6 @@ inside-omitted n room o l a b = rw (a, b)
 pub inside-there : (n room o l : ℕ) → header_size n ≤ o → o + l ≤ room → stands_inside n room o l ≡ true
 unfolding stands_inside header_size
 inside-there n room o l a b = rw (ne_eqb o 0 (λ z. omega arith), le-leb (header_size n) o a, le-leb (o + l) room b)
-
--- as the code finds out, of 20 files
-module _ (room o l : ℕ) where
-  pub inside-by : 164 ≤ o → leb (o + l) room ≡ stands_inside 20 room o l
-  unfolding stands_inside header_size
-  inside-by h = rw (ne_eqb o 0 (λ z. omega arith), le-leb 164 o h)
-
-  pub inside-not : o < 164 → (o ≡ 0 → ⊥) → false ≡ stands_inside 20 room o l
-  unfolding stands_inside header_size
-  inside-not h n = rw (ne_eqb o 0 n, lt-leb 164 o h)
-
-  pub inside-zero : o ≡ 0 → eqb l 0 ≡ stands_inside 20 room o l
-  unfolding stands_inside header_size
-  inside-zero e = rw e (sym (or-false (eqb l 0)))
 
 -- each file by itself, and each two
 pub record Laid (n : ℕ) (offs lens : List ℕ) (room : ℕ) : Type 0 where

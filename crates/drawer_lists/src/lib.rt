@@ -28,10 +28,7 @@ use standing::place;
 fn slice_number(absent: bool, number: usize) -> usize
     ensures { result ≡ cond absent 0 number }
 {
-    if absent {
-        return 0;
-    }
-    number
+    if absent { 0 } else { number }
 }
 
 // Puts down where the files of a drawer stand, in the first slice.
@@ -39,12 +36,10 @@ fn stand_drawer(d: &[u8], stand: &mut [usize])
     requires { 20 ≤ length stand.old / 3 }
     ensures { stand.new ≡ stands_in d.now 20 stand.old }
 {
-    let mut k = 0;
-    while k < 20 {
+    for k in 0..20 {
         let from = offset_at(d, k);
         let to = from + length_at(d, k);
         place(stand, k, slice_number(is_omitted(d, k), 1), from, to);
-        k += 1;
     }
 }
 
@@ -52,10 +47,7 @@ fn stand_drawer(d: &[u8], stand: &mut [usize])
 fn refusal_of(d: &[u8], fault: u32) -> u32
     ensures { result ≡ cond (eqb fault 0) (drawer_fault 20 d.now) fault }
 {
-    if fault != 0 {
-        return fault;
-    }
-    drawer_fault(d)
+    if fault == 0 { drawer_fault(d) } else { fault }
 }
 
 // Judges a drawer in full in a lent workspace, whatever that holds: its marks go to the lists.

@@ -2,17 +2,17 @@
 -- Assumes nothing.
 use Prim.Native.Nat.{ℕ, ◌+◌, ◌-◌, ◌≤◌, ◌<◌}
 use mathlib.Core.Path.{◌≡◌, refl, sym, ap, ◌∙◌}
-use mathlib.Core.Bool.{Bool, true, false, cond, ◌&&◌, ◌||◌}
+use mathlib.Core.Bool.{Bool, true, false, cond, ◌||◌}
 use mathlib.Core.Logic.{◌⊎◌, inl, inr, ⊎_elim}
 use mathlib.Core.List.{List, []}
 use native.Mathlib.Nat.{zero-add, add-zero}
 use native.Mathlib.Numerals.{add-one}
 use native.Mathlib.Omega.{arith}
-use borrow.Author.Tests.{ltb-true, ltb-false, leb-true, eqb-true, eqb-false, lt-ltb, le-ltb, le-leb, lt-leb, eq-eqb, ne_eqb}
+use borrow.Author.Tests.{ltb-false, eqb-true, eqb-false, lt-ltb, le-ltb, le-leb, lt-leb, eq-eqb, ne_eqb}
 use lib.ListN.{length, get_or, take, drop, set, length-drop}
 use lib.Seq.{paste, paste-suc, drop-paste, length-take-le, get_or-take, get_or-drop}
-use lib.Dec.{ltb, leb, eqb}
-use Rattle.json_bytes.proofs.Laws.{by-test, both_left, both_right}
+use lib.Dec.{ltb, eqb}
+use Rattle.json_bytes.proofs.Laws.{by-test}
 use Rattle.bundle_bytes.specs.Pieces.{written}
 use Rattle.bundle_bytes.proofs.Laws.{written-whole}
 use Rattle.bundle_layout.specs.Bundle.{header_size}
@@ -56,16 +56,6 @@ module _ (n : ℕ) (offs lens : List ℕ) (c : ℕ) where
   pub next-none : Next n offs lens c 0 n
   next-none = record { within = omega arith; full = λ l. absurd (omega arith); least = λ j l. absurd (omega arith) }
 
-  next-parts : (best i : ℕ) → is_next n offs lens c best i ≡ true → (0 < get_or lens i 0) × (c ≤ get_or offs i 0) × ((best ≡ n) ⊎ (get_or offs i 0 < get_or offs best 0))
-  unfolding is_next
-  next-parts best i e =
-      let r = both_right (ltb 0 (get_or lens i 0)) (leb c (get_or offs i 0) && (eqb best n || ltb (get_or offs i 0) (get_or offs best 0))) e in
-      (ltb-true 0 (get_or lens i 0) (both_left (ltb 0 (get_or lens i 0)) (leb c (get_or offs i 0) && (eqb best n || ltb (get_or offs i 0) (get_or offs best 0))) e), leb-true c (get_or offs i 0) (both_left (leb c (get_or offs i 0)) (eqb best n || ltb (get_or offs i 0) (get_or offs best 0)) r), go (eqb best n) refl (both_right (leb c (get_or offs i 0)) (eqb best n || ltb (get_or offs i 0) (get_or offs best 0)) r))
-    where
-      go : (t : Bool) → eqb best n ≡ t → (t || ltb (get_or offs i 0) (get_or offs best 0)) ≡ true → (best ≡ n) ⊎ (get_or offs i 0 < get_or offs best 0)
-      go true q e = inl (eqb-true best n q)
-      go false q e = inr (ltb-true (get_or offs i 0) (get_or offs best 0) e)
-
   next-not : (best i : ℕ) → is_next n offs lens c best i ≡ false → 0 < get_or lens i 0 → c ≤ get_or offs i 0 → (best ≡ n → ⊥) × (get_or offs best 0 ≤ get_or offs i 0)
   unfolding is_next
   next-not best i e a b = go (eqb best n) refl (rw (lt-ltb 0 (get_or lens i 0) a, le-leb c (get_or offs i 0) b) at e)
@@ -84,24 +74,6 @@ module _ (n : ℕ) (offs lens : List ℕ) (c : ℕ) where
       pub next-early : o < c → false ≡ is_next n offs lens c best i
       unfolding is_next
       next-early l = rw (lt-ltb 0 (get_or lens i 0) (omega arith), lt-leb c (get_or offs i 0) (omega arith))
-
-      pub next-first : c ≤ o → best ≡ n → true ≡ is_next n offs lens c best i
-      unfolding is_next
-      next-first l e = rw (lt-ltb 0 (get_or lens i 0) (omega arith), le-leb c (get_or offs i 0) (omega arith), eq-eqb best n e)
-
-      pub next-better : {p : ℕ} → c ≤ o → (best ≡ n → ⊥) → p ≡ get_or offs best 0 → ltb o p ≡ is_next n offs lens c best i
-      unfolding is_next
-      next-better l e q = rw (lt-ltb 0 (get_or lens i 0) (omega arith), le-leb c (get_or offs i 0) (omega arith), ne_eqb best n e, q, b)
-
-  -- one file more is looked at: it is the next so far, or not
-  pub next-taken : (best i : ℕ) {t : Bool} → i < n → Next n offs lens c i best → t ≡ is_next n offs lens c best i → t ≡ true → Next n offs lens c (i + 1) i
-  next-taken best i l x is e =
-      let p = next-parts best i (sym is ∙ e) in
-      record {
-        within = omega arith;
-        full = λ _. (p.0, p.1);
-        least = λ j m a b. (l, ⊎_elim (λ q. rw q (omega arith)) (λ q. let y = x.least j q a b in ⊎_elim (λ z. omega (arith, y.0)) (λ z. omega (arith, y.1)) p.2) (last-or-before j i (omega arith)));
-      }
 
   pub next-left : (best i : ℕ) {t : Bool} → Next n offs lens c i best → t ≡ is_next n offs lens c best i → t ≡ false → Next n offs lens c (i + 1) best
   next-left best i x is e =
@@ -281,7 +253,3 @@ module _ (n : ℕ) (d offs lens : List ℕ) {t : Bool} (is : t ≡ stand_apart n
   pub moved-so : {last : List ℕ} → t ≡ true → last ≡ files_moved n d offs lens → last ≡ moved_in n d offs lens
   unfolding moved_in
   moved-so e q = rw (sym is ∙ e) q
-
-  pub moved-not : t ≡ false → d ≡ moved_in n d offs lens
-  unfolding moved_in
-  moved-not e = rw (sym is ∙ e)

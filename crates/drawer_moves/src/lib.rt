@@ -1,5 +1,5 @@
 // The files of a drawer moved down in place, each byte at most once and never upwards.
-#![tactic(auto)]
+#![tactic(auto, unfolding(crate::specs::Painted::moved_in, crate::specs::Next::is_next, bundle_layout::specs::Bundle::header_size))]
 
 ghost use Rattle.std.specs.Prelude.{◌≡◌, true, ◌+◌, ◌≤◌, ◌<◌, length, take, drop};
 ghost use Rattle.bundle_bytes.specs.Pieces.{written};
@@ -14,10 +14,8 @@ fn move_part(d: &mut [u8], from: usize, to: usize, n: usize)
     requires { (to ≤ from) × (from + n ≤ length d.old) }
     ensures { d.new ≡ written d.old to (take n (drop from d.old)) }
 {
-    let mut i = 0;
-    while i < n {
+    for i in 0..n {
         d[to + i] = d[from + i];
-        i += 1;
     }
 }
 
@@ -25,17 +23,8 @@ fn move_part(d: &mut [u8], from: usize, to: usize, n: usize)
 fn is_next(offs: &[u32], lens: &[u32], c: usize, best: usize, i: usize) -> bool
     ensures { result ≡ is_next 20 offs.now lens.now c best i }
 {
-    if number_in(lens, i) == 0 {
-        return false;
-    }
     let o = number_in(offs, i);
-    if o < c {
-        return false;
-    }
-    if best == 20 {
-        return true;
-    }
-    o < number_in(offs, best)
+    number_in(lens, i) != 0 && c <= o && (best == 20 || o < number_in(offs, best))
 }
 
 // The file with bytes that starts first from c on; 20 where none does.
@@ -43,13 +32,9 @@ fn next_file(offs: &[u32], lens: &[u32], c: usize) -> usize
     ensures { Next 20 offs.now lens.now c 20 result }
 {
     let mut best = 20;
-    let mut i = 0;
-    while i < 20 {
+    for i in 0..20 {
         if is_next(offs, lens, c, best, i) {
             best = i;
-            i += 1;
-        } else {
-            i += 1;
         }
     }
     best

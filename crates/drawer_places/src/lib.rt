@@ -1,5 +1,5 @@
 // Where a change puts its bytes, and where the other files go when they are moved down.
-#![tactic(auto)]
+#![tactic(auto, unfolding(crate::specs::Choice::chosen, drawer_layout::specs::Places::total, drawer_layout::specs::Places::comes_before, drawer_layout::specs::Places::length_before, drawer_layout::specs::Places::all_lengths, drawer_layout::specs::Places::moved_to, drawer_layout::specs::Places::are_moved, drawer_layout::specs::Places::new_place, bundle_layout::specs::Bundle::header_size))]
 
 ghost use Rattle.std.specs.Prelude.{◌≡◌, cond, ◌≤◌, ◌*◌, ◌^◌, get_or};
 ghost use Rattle.drawer_layout.specs.Places.{comes_before, length_before, all_lengths, moved_to};
@@ -19,10 +19,8 @@ pub fn all_lengths(lens: &[u32]) -> usize
     ensures { (result ≡ all_lengths 20 lens.now) × (result ≤ 20 * 2 ^ 32) }
 {
     let mut sum: usize = 0;
-    let mut j = 0;
-    while j < 20 {
+    for j in 0..20 {
         sum += number_in(lens, j);
-        j += 1;
     }
     sum
 }
@@ -33,16 +31,11 @@ fn length_if_before(offs: &[u32], lens: &[u32], j: usize, i: usize) -> usize
 {
     let a = number_in(offs, j);
     let b = number_in(offs, i);
-    if a < b {
-        return number_in(lens, j);
+    if a < b || (a == b && j < i) {
+        number_in(lens, j)
+    } else {
+        0
     }
-    if a != b {
-        return 0;
-    }
-    if j < i {
-        return number_in(lens, j);
-    }
-    0
 }
 
 // The lengths of all files that come before file i.
@@ -50,10 +43,8 @@ fn length_before(offs: &[u32], lens: &[u32], i: usize) -> usize
     ensures { (result ≡ length_before 20 offs.now lens.now i) × (result ≤ 20 * 2 ^ 32) }
 {
     let mut sum: usize = 0;
-    let mut j = 0;
-    while j < 20 {
+    for j in 0..20 {
         sum += length_if_before(offs, lens, j, i);
-        j += 1;
     }
     sum
 }
@@ -63,12 +54,12 @@ pub fn moved_to(offs: &[u32], lens: &[u32], i: usize) -> usize
     ensures { result ≡ moved_to 20 offs.now lens.now i }
 {
     if number_in(offs, i) == 0 {
-        return 0;
+        0
+    } else if number_in(lens, i) == 0 {
+        164
+    } else {
+        164 + length_before(offs, lens, i)
     }
-    if number_in(lens, i) == 0 {
-        return 164;
-    }
-    164 + length_before(offs, lens, i)
 }
 
 // Where a file of m bytes goes, by what else is there; a file that is not present goes nowhere.

@@ -1,6 +1,6 @@
 // A drawer as a text: the files that it holds and where they stand, the gaps between them, and how many
 // bytes are free. Each function puts what it makes as `output` does, and answers the place behind it.
-#![tactic(auto)]
+#![tactic(auto, unfolding(crate::specs::Ahead::nearer_to))]
 
 ghost use Rattle.std.specs.Prelude.{◌≡◌, true, ◌+◌, ◌-◌, ◌^◌, ◌<◌, length};
 ghost use Rattle.bundle_bytes.specs.Pieces.{joined};
@@ -38,10 +38,8 @@ fn put_all_held(out: &mut [u8], at: usize, d: &[u8]) -> usize
     ensures { output_at out.new result ≡ put (output_at out.old at) (joined (held_line d.now) 20) }
 {
     let mut end = at;
-    let mut k = 0;
-    while k < 20 {
+    for k in 0..20 {
         end = put_held(out, end, d, k);
-        k += 1;
     }
     end
 }
@@ -58,18 +56,13 @@ fn nearer(c: usize, best: Stretch, o: usize, l: usize) -> Stretch
     requires { o + l < 2 ^ 64 }
     ensures { result ≡ nearer_to c best o l }
 {
-    if l == 0 {
-        return best;
-    }
-    if o < c {
-        return best;
-    }
-    if best.start <= o {
-        return best;
-    }
-    Stretch {
-        start: o,
-        end: o + l,
+    if l == 0 || o < c || best.start <= o {
+        best
+    } else {
+        Stretch {
+            start: o,
+            end: o + l,
+        }
     }
 }
 
@@ -81,12 +74,10 @@ fn file_ahead(offs: &[u32], lens: &[u32], c: usize, room: usize) -> Stretch
         start: room,
         end: room,
     };
-    let mut i = 0;
-    while i < 20 {
+    for i in 0..20 {
         let o = number_in(offs, i);
         let l = number_in(lens, i);
         best = nearer(c, best, o, l);
-        i += 1;
     }
     best
 }

@@ -1,6 +1,6 @@
 -- The names under which the 20 files of a set stand in a folder: document 01, "File numbers", with the endings that
 -- document 002 gives the tables.
-use Rattle.std.specs.Prelude.{ℕ, cond, List, [], ◌∷◌, map, get_or, eqb}
+use Rattle.std.specs.Prelude.{ℕ, cond, List, [], ◌∷◌, get_or, eqb}
 use Rattle.json_bytes.specs.Ascii.{codes}
 
 unfoldable pub file_names : List (List ℕ)
@@ -37,11 +37,3 @@ up_to_dot (b ∷ name) = cond (eqb b 46) [] (b ∷ up_to_dot name)
 
 unfoldable pub table_name : ℕ → List ℕ
 table_name file = up_to_dot (file_name file)
-
--- each name behind a slash, as it stands in a path
-unfoldable pub tails : List (List ℕ)
-tails = map (λ name. 47 ∷ name) file_names
-
--- a slash and a file's name; nothing for a number over 19
-unfoldable pub tail_of : ℕ → List ℕ
-tail_of file = get_or tails file []

@@ -1,78 +1,67 @@
 // The names of the 20 files of a set and of their tables.
-#![tactic(auto)]
+#![tactic(auto, unfolding(crate::specs::Names::file_name, crate::specs::Names::file_names, crate::specs::Names::table_name, json_bytes::specs::Ascii::codes,))]
 
-ghost use Rattle.std.specs.Prelude.{◌≡◌, ◌-◌};
-ghost use Rattle.file_names.specs.Names.{file_name, table_name};
+ghost use Rattle.std.specs.Prelude.{◌≡◌, not, eqb};
+ghost use Rattle.std.specs.List.{prefix_len};
+ghost use Rattle.file_names.specs.Names.{file_name, table_name, up_to_dot};
 ghost use Rattle.output.specs.Output.{output_at, put};
-ghost use Rattle.file_names.specs.Flat.{all_tails, tail_start, dot_before};
 
 use output::put_text;
-use parts::part;
 
-// The names one behind the other, each behind a slash, as it stands in a path.
-const TAILS: [u8; 484] =
-    *b"/FileType.txt/DatasetMetadata.json/SourceSoftwareMetadata.json/ProjectScheduleData.json/ProjectCustomFieldDefinitions.json/ProjectCustomFieldValues.json/Calendars.json/CalendarWorkshifts.json/CalendarExceptions.json/Tasks.json/TaskScheduleData.json/TaskCustomFieldDefinitions.json/TaskCustomFieldValues.json/TaskConstraints.json/TaskRelationships.json/TaskOutlineStructure.json/Resources.json/ResourceCustomFieldDefinitions.json/ResourceCustomFieldValues.json/ResourceAssignments.json";
-
-const STARTS: [usize; 21] = [
-    0, 13, 34, 62, 87, 122, 152, 167, 191, 215, 226, 248, 280, 307, 328, 351, 377, 392, 428, 459,
-    484,
-];
-
-fn tails() -> [u8; 484]
-    ensures { result ≡ all_tails }
+// A file's name; nothing for a number over 19.
+fn file_name(file: usize) -> &'static [u8]
+    ensures { result.now ≡ file_name file }
 {
-    TAILS
+    match file {
+        0 => b"FileType.txt",
+        1 => b"DatasetMetadata.json",
+        2 => b"SourceSoftwareMetadata.json",
+        3 => b"ProjectScheduleData.json",
+        4 => b"ProjectCustomFieldDefinitions.json",
+        5 => b"ProjectCustomFieldValues.json",
+        6 => b"Calendars.json",
+        7 => b"CalendarWorkshifts.json",
+        8 => b"CalendarExceptions.json",
+        9 => b"Tasks.json",
+        10 => b"TaskScheduleData.json",
+        11 => b"TaskCustomFieldDefinitions.json",
+        12 => b"TaskCustomFieldValues.json",
+        13 => b"TaskConstraints.json",
+        14 => b"TaskRelationships.json",
+        15 => b"TaskOutlineStructure.json",
+        16 => b"Resources.json",
+        17 => b"ResourceCustomFieldDefinitions.json",
+        18 => b"ResourceCustomFieldValues.json",
+        19 => b"ResourceAssignments.json",
+        _ => b"",
+    }
 }
 
-// Where a file's name starts among them; over 19, their length.
-fn tail_start(file: usize) -> usize
-    ensures { result ≡ tail_start file }
+// How many bytes of a name stand before its dot.
+fn dot_at(name: &[u8]) -> usize
+    ensures { result ≡ prefix_len (λ b. not (eqb b 46)) name.now }
 {
-    if file < 20 {
-        return STARTS[file];
-    }
-    STARTS[20]
+    name.iter().take_while(|b| **b != b'.').count()
+}
+
+// A file's name up to its dot.
+#[tactic(auto, using(crate::proofs::Laws::up_to_dot_taken))]
+pub fn up_to_dot(name: &[u8]) -> &[u8]
+    ensures { result.now ≡ up_to_dot name.now }
+{
+    &name[..dot_at(name)]
 }
 
 // Puts a file's name into an output; for a number over 19 nothing.
 pub fn put_file_name(out: &mut [u8], at: usize, file: usize) -> usize
     ensures { output_at out.new result ≡ put (output_at out.old at) (file_name file) }
 {
-    if 19 < file {
-        return at;
-    }
-    let tails = tails();
-    let tail = part(&tails, tail_start(file), tail_start(file + 1));
-    put_text(out, at, part(tail, 1, tail.len()))
-}
-
-fn less(a: usize, b: usize) -> usize
-    ensures { result ≡ a - b }
-{
-    if a < b {
-        return 0;
-    }
-    a - b
-}
-
-// Where the dot stands in a file's name that ends at a place.
-fn dot_before(file: usize, end: usize) -> usize
-    ensures { result ≡ dot_before file end }
-{
-    if file == 0 {
-        return less(end, 4);
-    }
-    less(end, 5)
+    put_text(out, at, file_name(file))
 }
 
 // Puts a table's name, which is its file's up to the dot.
 pub fn put_table_name(out: &mut [u8], at: usize, file: usize) -> usize
     ensures { output_at out.new result ≡ put (output_at out.old at) (table_name file) }
 {
-    if 19 < file {
-        return at;
-    }
-    let tails = tails();
-    let tail = part(&tails, tail_start(file), tail_start(file + 1));
-    put_text(out, at, part(tail, 1, dot_before(file, tail.len())))
+    put_text(out, at, up_to_dot(file_name(file)))
 }

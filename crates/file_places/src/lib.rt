@@ -1,6 +1,6 @@
 // Where a part stands that a call hands back: of a bundle, of a drawer, and of the files after a change. A part's
 // statement says which bytes it has; these say where they are.
-#![tactic(auto)]
+#![tactic(auto, unfolding(crate::specs::Places::place_asked, crate::specs::Places::place_held, crate::specs::Places::place_after))]
 
 ghost use Rattle.std.specs.Prelude.{◌≡◌};
 ghost use Rattle.parts.specs.Files.{new_file};
@@ -25,6 +25,11 @@ pub struct PartAfter {
     pub length: usize,
 }
 
+const NOWHERE: PartPlace = PartPlace {
+    start: 0,
+    length: 0,
+};
+
 // Where the header says that file k stands; 0 and 0 for an omitted one.
 fn place_in(s: &[u8], k: usize) -> PartPlace
     ensures { result ≡ stands_at (offset_at s.now k) (length_at s.now k) }
@@ -40,12 +45,10 @@ pub fn file_place(s: &[u8], n: usize, k: usize) -> PartPlace
     ensures { result ≡ place_asked n s.now k }
 {
     if lookup_fault(s, n, k) != 0 {
-        return PartPlace {
-            start: 0,
-            length: 0,
-        };
+        NOWHERE
+    } else {
+        place_in(s, k)
     }
-    place_in(s, k)
 }
 
 // Where the part of `drawer_held::held_part` stands in the drawer; 0 and 0 for an omitted file and a refusal.
@@ -53,12 +56,10 @@ pub fn held_place(d: &[u8], k: usize) -> PartPlace
     ensures { result ≡ place_held 20 d.now k }
 {
     if held_fault(d, k) != 0 {
-        return PartPlace {
-            start: 0,
-            length: 0,
-        };
+        NOWHERE
+    } else {
+        place_in(d, k)
     }
-    place_in(d, k)
 }
 
 // Where the part of `bundle::part_after` stands, and in which of the two lent slices.
@@ -66,15 +67,16 @@ pub fn place_after<'a>(s: &'a [u8], k: usize, present: bool, new: &'a [u8], i: u
     ensures { result ≡ place_after s.now k (new_file present new.now) i }
 {
     if i == k {
-        return PartAfter {
+        PartAfter {
             changed: true,
             start: 0,
             length: new_part(present, new).len(),
-        };
-    }
-    PartAfter {
-        changed: false,
-        start: offset_at(s, i),
-        length: length_at(s, i),
+        }
+    } else {
+        PartAfter {
+            changed: false,
+            start: offset_at(s, i),
+            length: length_at(s, i),
+        }
     }
 }

@@ -1,19 +1,16 @@
 -- A mark as the code finds it in lists in which files were read.
 -- Assumes nothing.
-use Prim.Native.Nat.{ℕ, ◌+◌, ◌-◌, ◌*◌, ◌/◌, ◌≤◌, ◌<◌}
-use mathlib.Core.Path.{◌≡◌, refl, sym}
+use Prim.Native.Nat.{ℕ, ◌+◌, ◌-◌, ◌*◌, ◌/◌, ◌≤◌}
+use mathlib.Core.Path.{◌≡◌, refl}
 use mathlib.Core.Bool.{Bool, true, false, ◌&&◌}
-use mathlib.Core.List.{List, []}
-use native.Mathlib.Nat.{mul-zero, le-div_iff_mul-le, div-lt_iff_lt-mul}
+use mathlib.Core.List.{List}
 use native.Mathlib.Omega.{arith}
-use borrow.Author.Tests.{lt-ltb, le-ltb}
-use lib.ListN.{length, get_or, take, drop, length-drop, get_or-eq_default}
-use lib.Seq.{take_all}
+use borrow.Author.Tests.{le-ltb}
+use lib.ListN.{length, get_or, take, drop, length-drop}
 use lib.Dec.{ltb, eqb}
 use Rattle.json_bytes.proofs.Laws.{by-test, leading-bound}
 use Rattle.parts.specs.Part.{part_of}
 use Rattle.parts.specs.Files.{File, bytes_of}
-use Rattle.parts.proofs.Laws.{part-is}
 use Rattle.mark_numbers.specs.declared.Mark.{Mark}
 use Rattle.mark_numbers.specs.Marks.{Marks, not_judged}
 use Rattle.table_rows.specs.Rows.{cell_at, tables_in, first_field, field_count}
@@ -29,38 +26,12 @@ pub and-false : (t : Bool) → (t && false) ≡ false
 and-false true = refl
 and-false false = refl
 
--- ---- past the last start a file has no cells
-pub cells-none : (work starts : List ℕ) (k : ℕ) → length starts ≤ k → [] ≡ part_of work (get_or starts k 0) (get_or starts (k + 1) 0)
-cells-none work starts k l =
-    sym (rw (get_or-eq_default starts 0 l, get_or-eq_default starts 0 {n = k + 1} (omega arith)) (part-is work 0 0 (omega arith) (omega arith)))
-
--- ---- of its cells those of so many records
-module _ (cells : List ℕ) (width records : ℕ) where
-  pub no-width : width ≡ 0 → [] ≡ take (records * width) cells
-  no-width e = rw (e, mul-zero records)
-
-  pub records-fit : (width ≡ 0 → ⊥) → records ≤ length cells / width → records * width ≤ length cells
-  records-fit n l = (le-div_iff_mul-le {k = width} (omega arith)).0 l
-
-  pub too-many-records : (width ≡ 0 → ⊥) → length cells / width < records → cells ≡ take (records * width) cells
-  too-many-records n h = sym (take_all (records * width) cells (omega (arith, (div-lt_iff_lt-mul {k = width} (omega arith)).0 h)))
-
 -- ---- how many fields a file has, by the lent tables
 pub count-within : (forms fields : List ℕ) (k : ℕ) → count_in forms fields k ≤ length fields / 5
 unfolding count_in field_count
 count-within forms fields k =
     by-test (λ n. n ≤ length fields / 5) (ltb 1 (cell_at forms 2 k 0)) _ _ (λ _. omega arith)
     (λ _. omega (arith, leading-bound (λ t. eqb t k) (drop (first_field fields k) (tables_in fields)), length-drop (first_field fields k) (tables_in fields), tables-length fields))
-
--- as the code finds it
-module _ (forms fields : List ℕ) (k form : ℕ) (form-is : form ≡ cell_at forms 2 k 0) where
-  pub count-fixed : 1 < form → 0 ≡ count_in forms fields k
-  unfolding count_in
-  count-fixed l = rw (← form-is, lt-ltb 1 form l)
-
-  pub count-table : form ≤ 1 → (n : ℕ) → n ≡ field_count fields k → n ≡ count_in forms fields k
-  unfolding count_in
-  count-table l n is = rw (← form-is, le-ltb 1 form l) is
 
 -- ---- the mark of a rule, as the code finds it
 module _ (values texts : List ℕ) (rule : Rule) (files : ℕ → File) (count : ℕ → ℕ) (starts work records kinds : List ℕ) (first second : ℕ) (first-is : first ≡ first_file_of rule) (second_is : second ≡ second_file_of rule)
@@ -92,7 +63,3 @@ module _ (n : ℕ) (rule : ℕ → Rule) (values texts : List ℕ) (tables : ℕ
     pub first-missing : n ≤ first → not_judged ≡ found_mark n rule values texts tables own m
     unfolding found_mark
     first-missing h = rw (le-ltb m n l, ← first-is, le-ltb first n h)
-
-    pub rule_found : first < n → (second : ℕ) → second ≡ second_file_of (rule (m - n)) → second < n → (r : Mark) → r ≡ rule_mark_in values texts tables own.kinds (rule (m - n)) → r ≡ found_mark n rule values texts tables own m
-    unfolding found_mark
-    rule_found h second is g r r-is = rw (le-ltb m n l, ← first-is, lt-ltb first n h, ← is, lt-ltb second n g) r-is

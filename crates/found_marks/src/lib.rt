@@ -1,6 +1,6 @@
 // A mark from lists in which files were read: the cells of all files in one list, and each file's mark
 // and the number of its records in lists of their own. What stands past the end of a list is 0.
-#![tactic(auto)]
+#![tactic(auto, unfolding(crate::specs::Found::count_in, crate::specs::Found::found_mark, parts::specs::Part::part_of))]
 
 ghost use Rattle.std.specs.Prelude.{◌≡◌, ◌+◌, ◌*◌, get_or, take};
 ghost use Rattle.parts.specs.Part.{part_of};
@@ -15,14 +15,21 @@ use rules::{is_judged, mark_of, rule_break};
 use standing::part_standing;
 use table_rows::{cell_at, field_count};
 
+const NOT_JUDGED: Mark = Mark {
+    kind: 2,
+    place: 0,
+    companion: 0,
+};
+
 // How many fields file k has; a fixed text has none.
 pub fn count_of(forms: &[u32], fields: &[u32], k: usize) -> usize
     ensures { result ≡ count_in forms.now fields.now k }
 {
     if 1 < cell_at(forms, 2, k, 0) {
-        return 0;
+        0
+    } else {
+        field_count(fields, k)
     }
-    field_count(fields, k)
 }
 
 // How many cells a record of file k has.
@@ -37,30 +44,25 @@ pub fn cells_of<'a>(work: &'a [u32], starts: &[usize], k: usize) -> &'a [u32]
     ensures { result.now ≡ part_of work.now (get_or starts.now k 0) (get_or starts.now (k + 1) 0) }
 {
     if starts.len() <= k {
-        return &work[..0];
+        return &[];
     }
     let from = starts[k];
     let to = number_at(starts, k + 1);
-    if to < from {
-        return &work[..0];
+    if from <= to && to <= work.len() {
+        &work[from..to]
+    } else {
+        &[]
     }
-    if work.len() < to {
-        return &work[..0];
-    }
-    &work[from..to]
 }
 
 // Of a file's cells those of its records: what stands behind them is what stood there before, and tells nothing.
 fn record_cells(cells: &[u32], width: usize, records: usize) -> &[u32]
     ensures { result.now ≡ take (records * width) cells.now }
 {
-    if width == 0 {
-        return &cells[..0];
+    match records.checked_mul(width) {
+        Some(n) if n <= cells.len() => &cells[..n],
+        _ => cells,
     }
-    if cells.len() / width < records {
-        return cells;
-    }
-    &cells[0..records * width]
 }
 
 // Rule i over files that have been read, which have marks of these kinds and so many records.
@@ -85,11 +87,7 @@ fn rule_mark<'a>(
     let first = first_file(rules, i);
     let second = second_file(rules, i);
     if !is_judged(kind_at(kinds, first), kind_at(kinds, second)) {
-        return Mark {
-            kind: 2,
-            place: 0,
-            companion: 0,
-        };
+        return NOT_JUDGED;
     }
     let s = part_standing(a, b, c, stand, first);
     let u = part_standing(a, b, c, stand, second);
@@ -140,19 +138,8 @@ pub fn mark_at<'a>(
         return mark_in(kinds, places, companions, m);
     }
     let i = m - n;
-    if n <= first_file(rules, i) {
-        return Mark {
-            kind: 2,
-            place: 0,
-            companion: 0,
-        };
-    }
-    if n <= second_file(rules, i) {
-        return Mark {
-            kind: 2,
-            place: 0,
-            companion: 0,
-        };
+    if n <= first_file(rules, i) || n <= second_file(rules, i) {
+        return NOT_JUDGED;
     }
     rule_mark(
         a, b, c, stand, forms, fields, rules, values, texts, i, starts, work, kinds, records,

@@ -34,16 +34,6 @@ use Rattle.gate_marks.specs.Code.{rooms_in, Starts, ReadTo, put_mark}
 use Rattle.gate_marks.proofs.Rooms.{width_is, width-counted, room_by}
 use Rattle.gate_marks.proofs.Laws.{own-reads, first_reads, second_reads, same-mark, needed-by}
 
--- ---- whether mark m reads a file, as the code asks it of a rule
-module _ (n m k : ℕ) (rule : ℕ → Rule) (l : n ≤ m) (first : ℕ) (first-is : first ≡ first_file_of (rule (m - n))) where
-  pub reads-as-first : first ≡ k → true ≡ mark_reads n rule m k
-  unfolding mark_reads reads
-  reads-as-first e = rw (le-ltb m n l, ← first-is, eq-eqb first k e)
-
-  pub reads-as-second : (first ≡ k → ⊥) → (second : ℕ) → second ≡ second_file_of (rule (m - n)) → eqb second k ≡ mark_reads n rule m k
-  unfolding mark_reads reads
-  reads-as-second e second second_is = rw (le-ltb m n l, ← first-is, ne_eqb first k e, second_is)
-
 -- ---- the search for a mark that is judged and reads a file: what is left of it at mark m
 pub wanted-starts : (n : ℕ) (rule : ℕ → Rule) (scope : Scope) (file count rules : ℕ) → count ≡ rules → needed n rules rule scope file ≡ needed_from n rule scope file (n + count - 0) 0
 unfolding needed

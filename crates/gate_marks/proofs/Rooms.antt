@@ -13,6 +13,7 @@ use borrow.Author.Tests.{lt-ltb, le-ltb, le-leb, lt-leb, eq-eqb, ne_eqb, ltb-tru
 use lib.ListN.{length, get_or, set, take, drop, length-take, length-drop, drop_of_length-le}
 use lib.Seq.{drop-cons, set_at, append_snoc, get_or-set_same, get_or-set_other, length-take-le}
 use lib.Dec.{leb, ltb, eqb}
+use Rattle.std.proofs.Common.{replicate}
 use Rattle.parts.specs.Part.{part_of}
 use Rattle.parts.specs.Files.{File}
 use Rattle.parts.proofs.Laws.{part-is}
@@ -37,37 +38,15 @@ unfolding zeros
 length-zeros zero = refl
 length-zeros (suc n) = ap suc (length-zeros n)
 
-zeros-next : (n : ℕ) → zeros (n + 1) ≡ zeros n ++ (0 ∷ [])
+zeros-filled : (n : ℕ) → replicate n 0 ≡ zeros n
 unfolding zeros
-zeros-next zero = refl
-zeros-next (suc n) = rw (add-one (suc n)) (ap (λ l. 0 ∷ l) (rw add-one at (zeros-next n)))
+zeros-filled zero = refl
+zeros-filled (suc n) = ap (λ l. 0 ∷ l) (zeros-filled n)
 
--- the first i of them cleared: one more, until none is left
-module _ (old cells : List ℕ) (i : ℕ) (is : cells ≡ zeros i ++ drop i old) where
-  pub cleared_more : i < length old → set cells i 0 ≡ zeros (i + 1) ++ drop (i + 1) old
-  cleared_more l =
-      rw (is, drop-cons old i 0 l, set_at (zeros i) (get_or old i 0) (drop (suc i) old) 0 i (length-zeros i), zeros-next i, add-one i)
-      (sym (append_snoc (zeros i) 0 (drop (suc i) old)))
-
-  pub cleared-all : i ≡ length old → cells ≡ zeros (length old)
-  cleared-all e = rw (is, drop_of_length-le old {i = i} (omega arith), append-nil, e)
+pub zeros-are : (n : ℕ) (l : List ℕ) → l ≡ replicate n 0 → l ≡ zeros n
+zeros-are n l e = e ∙ zeros-filled n
 
 -- ---- how many cells a file has, by the lent tables
--- as the code finds it
-module _ (forms fields : List ℕ) (k count : ℕ) (count-is : count ≡ count_in forms fields k) where
-  pub room-none : 64 < count → 0 ≡ room_in forms fields k
-  unfolding room_in
-  room-none l = rw (← count-is, lt-leb count 64 l)
-
-  module _ (few : count ≤ 64) (form : ℕ) (form-is : form ≡ cell_at forms 2 k 0) where
-    pub room-single : form ≡ 1 → 2 * count ≡ room_in forms fields k
-    unfolding room_in
-    room-single e = rw (← count-is, le-leb count 64 few, ← form-is, eq-eqb form 1 e)
-
-    pub room-records : (form ≡ 1 → ⊥) → 8192 * count ≡ room_in forms fields k
-    unfolding room_in
-    room-records n = rw (← count-is, le-leb count 64 few, ← form-is, ne_eqb form 1 n)
-
 -- of 64 fields at most
 pub room_most : (forms fields : List ℕ) (k : ℕ) → room_in forms fields k ≤ 524288
 unfolding room_in

@@ -2,7 +2,7 @@
 // describe the gate; the files are parts of three lent slices. Each file that a judged mark reads is
 // read once, into a place of its own in a lent list of cells, and each rule is judged over the cells of
 // the files that its row names.
-#![tactic(auto)]
+#![tactic(auto, unfolding(crate::specs::Again::asked, crate::specs::Again::is_cleared, crate::specs::Again::touched, crate::specs::Code::room_in, crate::specs::Gate::mark_reads, crate::specs::Marks::mark_read, rule_shape::specs::Rule::reads))]
 
 ghost use Rattle.std.specs.Prelude.{◌≡◌, true, cond, ◌&&◌, [], ◌+◌, ◌-◌, ◌*◌, ◌/◌, ◌≤◌, ◌<◌, length, set, take, drop, ltb, leb};
 ghost use Rattle.parts.specs.Files.{new_file};
@@ -40,12 +40,12 @@ pub fn room_of(forms: &[u32], fields: &[u32], k: usize) -> usize
 {
     let count = count_of(forms, fields, k);
     if 64 < count {
-        return 0;
+        0
+    } else if cell_at(forms, 2, k, 0) == 1 {
+        2 * count
+    } else {
+        8192 * count
     }
-    if cell_at(forms, 2, k, 0) == 1 {
-        return 2 * count;
-    }
-    8192 * count
 }
 
 // Puts down where the cells of each of n files start, and behind them where the last ones end; answers
@@ -57,18 +57,13 @@ fn fill_starts(forms: &[u32], fields: &[u32], n: usize, limit: usize, starts: &m
 {
     let mut start = 0;
     starts[0] = 0;
-    let mut file = 0;
-    while file < n {
+    for file in 0..n {
         let room = room_of(forms, fields, file);
-        if limit < room {
-            return false;
-        }
-        if limit - room < start {
+        if limit < room || limit - room < start {
             return false;
         }
         start += room;
-        file += 1;
-        starts[file] = start;
+        starts[file + 1] = start;
     }
     true
 }
@@ -93,11 +88,7 @@ pub fn cells_in<'a>(forms: &[u32], fields: &[u32], work: &'a [u32], k: usize) ->
 pub fn clear(cells: &mut [u32])
     ensures { cells.new ≡ zeros (length cells.old) }
 {
-    let mut i = 0;
-    while i < cells.len() {
-        cells[i] = 0;
-        i += 1;
-    }
+    cells.fill(0);
 }
 
 // Reads file k into cells that are its own, over what they hold.
@@ -219,26 +210,17 @@ fn reads_file(n: usize, rules: &[u32], m: usize, k: usize) -> bool
     ensures { result ≡ mark_reads n (rule_from rules.now) m k }
 {
     if m < n {
-        return m == k;
+        m == k
+    } else {
+        first_file(rules, m - n) == k || second_file(rules, m - n) == k
     }
-    let i = m - n;
-    if first_file(rules, i) == k {
-        return true;
-    }
-    second_file(rules, i) == k
 }
 
 // Whether m is a mark that is asked for, or that of a file which this one reads.
 fn is_asked(n: usize, rules: &[u32], mark: usize, m: usize) -> bool
     ensures { result ≡ asked n (rule_from rules.now) mark m }
 {
-    if m == mark {
-        return true;
-    }
-    if n <= m {
-        return false;
-    }
-    reads_file(n, rules, mark, m)
+    m == mark || m < n && reads_file(n, rules, mark, m)
 }
 
 // Whether mark m is judged.
@@ -256,10 +238,7 @@ fn is_touched(n: usize, rules: &[u32], scope: Scope, m: usize) -> bool
 fn is_wanted(n: usize, rules: &[u32], scope: Scope, m: usize, file: usize) -> bool
     ensures { result ≡ touched n (rule_from rules.now) scope m && mark_reads n (rule_from rules.now) m file }
 {
-    if is_touched(n, rules, scope, m) {
-        return reads_file(n, rules, m, file);
-    }
-    false
+    is_touched(n, rules, scope, m) && reads_file(n, rules, m, file)
 }
 
 // Whether some mark is judged that reads a file.
@@ -268,12 +247,10 @@ fn is_needed(n: usize, rules: &[u32], scope: Scope, file: usize) -> bool
     ensures { result ≡ needed n (length rules.now / 9) (rule_from rules.now) scope file }
 {
     let marks = n + rule_count(rules);
-    let mut m = 0;
-    while m < marks {
+    for m in 0..marks {
         if is_wanted(n, rules, scope, m, file) {
             return true;
         }
-        m += 1;
     }
     false
 }
@@ -282,10 +259,7 @@ fn is_needed(n: usize, rules: &[u32], scope: Scope, file: usize) -> bool
 pub fn is_read(n: usize, rules: &[u32], scope: Scope, file: usize) -> bool
     ensures { result ≡ leb n 32 && needed n (length rules.now / 9) (rule_from rules.now) scope file }
 {
-    if 32 < n {
-        return false;
-    }
-    is_needed(n, rules, scope, file)
+    n <= 32 && is_needed(n, rules, scope, file)
 }
 
 // Whether the cells of a file are made 0 before it is read.
@@ -293,8 +267,7 @@ fn is_cleared(scope: Scope) -> bool
     ensures { result ≡ is_cleared scope }
 {
     match scope {
-        Scope::Full => false,
-        Scope::Change { file: _ } => false,
+        Scope::Full | Scope::Change { file: _ } => false,
         Scope::Mark { mark: _ } => true,
     }
 }
@@ -325,8 +298,7 @@ fn read_needed<'a>(
 {
     let n = forms.len() / 2;
     let cleared = is_cleared(scope);
-    let mut k = 0;
-    while k < n {
+    for k in 0..n {
         if is_needed(n, rules, scope, k) {
             let from = starts[k];
             let to = starts[k + 1];
@@ -334,9 +306,6 @@ fn read_needed<'a>(
                 a, b, c, stand, forms, fields, names, fixed, k, from, to, cleared, work, kinds,
                 places, companions, records,
             );
-            k += 1;
-        } else {
-            k += 1;
         }
     }
 }
@@ -368,8 +337,7 @@ fn put_marks<'a>(
 {
     let n = forms.len() / 2;
     let marks = n + rule_count(rules);
-    let mut m = 0;
-    while m < marks {
+    for m in 0..marks {
         if is_touched(n, rules, scope, m) {
             let mark = mark_at(
                 a,
@@ -391,9 +359,6 @@ fn put_marks<'a>(
                 records,
             );
             put_mark(m, mark, kinds, places, companions);
-            m += 1;
-        } else {
-            m += 1;
         }
     }
 }

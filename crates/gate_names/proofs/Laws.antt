@@ -1,8 +1,8 @@
 -- The name of a field, read from lent rows of fields.
 -- Assumes nothing.
-use Prim.Native.Nat.{ℕ, zero, suc, ◌≤◌, ◌<◌}
-use mathlib.Core.Path.{◌≡◌, refl, sym, ap, ◌∙◌}
-use mathlib.Core.List.{List, []}
+use Prim.Native.Nat.{ℕ, ◌≤◌, ◌<◌}
+use mathlib.Core.Path.{◌≡◌, sym, ap, ◌∙◌}
+use mathlib.Core.List.{List}
 use native.Mathlib.Nat.{zero-add}
 use native.Mathlib.Omega.{arith}
 use lib.ListN.{length, get_or, get_or-eq_default}
@@ -15,7 +15,7 @@ use Rattle.table_fields.specs.Flat.{field_rows, field_names}
 use Rattle.table_fields.proofs.Facts.{fields_back}
 use Rattle.contract_fields.specs.Fields.{contract_fields_of, contract_field_rows, contract_field_names}
 use Rattle.contract_fields.proofs.Facts.{fields_back as contract-back}
-use Rattle.gate_names.specs.Names.{contract_file_names, contract_file, no_field, name_among, name_in_rows}
+use Rattle.gate_names.specs.Names.{no_field, name_among, name_in_rows}
 
 module _ (rows names : List ℕ) (file field : ℕ) (o : Output) where
   pub name-none : {n : ℕ} → n ≡ field_count rows file → n ≤ field → o ≡ put o (name_in_rows rows names file field)
@@ -47,12 +47,3 @@ schedule-put = fields-put field_rows field_names fields_of fields_back
 
 pub contract-put : (file field : ℕ) (o : Output) {rows names : List ℕ} {p : Output} → rows ≡ contract_field_rows → names ≡ contract_field_names → p ≡ put o (name_in_rows rows names file field) → p ≡ put o (name_among (contract_fields_of file) field)
 contract-put = fields-put contract_field_rows contract_field_names contract_fields_of contract-back
-
--- past the contract side's four files
-pub no-file : (file : ℕ) → (file ≡ 0 → ⊥) → (file ≡ 1 → ⊥) → (file ≡ 2 → ⊥) → (file ≡ 3 → ⊥) → contract_file file ≡ []
-unfolding contract_file contract_file_names
-no-file zero a b c d = absurd (a refl)
-no-file (suc zero) a b c d = absurd (b refl)
-no-file (suc (suc zero)) a b c d = absurd (c refl)
-no-file (suc (suc (suc zero))) a b c d = absurd (d refl)
-no-file (suc (suc (suc (suc file)))) a b c d = refl

@@ -1,15 +1,14 @@
 // The names of each gate's files, tables and fields, put into an output as `output` does.
-#![tactic(auto)]
+#![tactic(auto, unfolding(crate::specs::Names::contract_file, crate::specs::Names::contract_file_names, crate::specs::Names::file_name_of, crate::specs::Names::table_name_of, crate::specs::Names::table_fields, crate::specs::Names::field_name_of, json_bytes::specs::Ascii::codes))]
 
 ghost use Rattle.std.specs.Prelude.{◌≡◌};
 ghost use Rattle.output.specs.Output.{output_at, put};
 ghost use Rattle.table_fields.specs.Fields.{fields_of};
 ghost use Rattle.contract_fields.specs.Fields.{contract_fields_of};
-ghost use Rattle.file_names.specs.Names.{up_to_dot};
 ghost use Rattle.gate_names.specs.Names.{contract_file, file_name_of, table_name_of, field_name_of, name_among, name_in_rows};
 
 use contract_fields::{contract_field_names, contract_field_rows};
-use file_names::{put_file_name, put_table_name};
+use file_names::{put_file_name, put_table_name, up_to_dot};
 use gate_lists::Which;
 use output::put_text;
 use parts::part;
@@ -17,41 +16,16 @@ use table_fields::{field_names, field_rows};
 use table_rows::{field_count, first_field, name_end, name_start, rows_after};
 
 // The name of a file of the contract side; nothing for a number over 3.
-fn put_contract_file(out: &mut [u8], at: usize, file: usize) -> usize
-    ensures { output_at out.new result ≡ put (output_at out.old at) (contract_file file) }
+fn contract_file(file: usize) -> &'static [u8]
+    ensures { result.now ≡ contract_file file }
 {
-    if file == 0 {
-        return put_text(out, at, b"Subcontractors.json");
+    match file {
+        0 => b"Subcontractors.json",
+        1 => b"WBS.json",
+        2 => b"OBS.json",
+        3 => b"ControlAccounts.json",
+        _ => b"",
     }
-    if file == 1 {
-        return put_text(out, at, b"WBS.json");
-    }
-    if file == 2 {
-        return put_text(out, at, b"OBS.json");
-    }
-    if file == 3 {
-        return put_text(out, at, b"ControlAccounts.json");
-    }
-    at
-}
-
-// That of its table.
-fn put_contract_table(out: &mut [u8], at: usize, file: usize) -> usize
-    ensures { output_at out.new result ≡ put (output_at out.old at) (up_to_dot (contract_file file)) }
-{
-    if file == 0 {
-        return put_text(out, at, b"Subcontractors");
-    }
-    if file == 1 {
-        return put_text(out, at, b"WBS");
-    }
-    if file == 2 {
-        return put_text(out, at, b"OBS");
-    }
-    if file == 3 {
-        return put_text(out, at, b"ControlAccounts");
-    }
-    at
 }
 
 // The name of a file of the gate; nothing where it has no such file.
@@ -59,9 +33,8 @@ pub fn put_file_of(which: Which, out: &mut [u8], at: usize, file: usize) -> usiz
     ensures { output_at out.new result ≡ put (output_at out.old at) (file_name_of which file) }
 {
     match which {
-        Which::Schedule => put_file_name(out, at, file),
-        Which::Baseline => put_file_name(out, at, file),
-        Which::Contract => put_contract_file(out, at, file),
+        Which::Schedule | Which::Baseline => put_file_name(out, at, file),
+        Which::Contract => put_text(out, at, contract_file(file)),
     }
 }
 
@@ -70,9 +43,8 @@ pub fn put_table_of(which: Which, out: &mut [u8], at: usize, file: usize) -> usi
     ensures { output_at out.new result ≡ put (output_at out.old at) (table_name_of which file) }
 {
     match which {
-        Which::Schedule => put_table_name(out, at, file),
-        Which::Baseline => put_table_name(out, at, file),
-        Which::Contract => put_contract_table(out, at, file),
+        Which::Schedule | Which::Baseline => put_table_name(out, at, file),
+        Which::Contract => put_text(out, at, up_to_dot(contract_file(file))),
     }
 }
 
@@ -121,8 +93,7 @@ pub fn put_field_of(which: Which, out: &mut [u8], at: usize, file: usize, field:
     ensures { output_at out.new result ≡ put (output_at out.old at) (field_name_of which file field) }
 {
     match which {
-        Which::Schedule => put_schedule_field(out, at, file, field),
-        Which::Baseline => put_schedule_field(out, at, file, field),
+        Which::Schedule | Which::Baseline => put_schedule_field(out, at, file, field),
         Which::Contract => put_contract_field(out, at, file, field),
     }
 }

@@ -25,24 +25,12 @@ use gate_lists::{Which, file_count, judge_lists, make_lists, reason_lists, try_l
 use parts::part;
 use program_io::{Host, fill};
 
-#[derive(Clone, Copy)]
-enum Gate {
-    Known { which: Which },
-    Unknown,
-}
-
-fn gate_of(number: u32) -> Gate {
+fn gate_of(number: u32) -> Option<Which> {
     match number {
-        0 => Gate::Known {
-            which: Which::Schedule,
-        },
-        1 => Gate::Known {
-            which: Which::Baseline,
-        },
-        2 => Gate::Known {
-            which: Which::Contract,
-        },
-        _ => Gate::Unknown,
+        0 => Some(Which::Schedule),
+        1 => Some(Which::Baseline),
+        2 => Some(Which::Contract),
+        _ => None,
     }
 }
 
@@ -265,17 +253,14 @@ fn answer(
     if !fill_front(rt, buf, n) {
         return false;
     }
-    let gate = gate_of(word_at(&head, 0));
-    match gate {
-        Gate::Known { which } => {
-            answer_case(rt, which, &head, part(buf, 0, n), news, out, bytes, work)
-        }
-        Gate::Unknown => false,
+    match gate_of(word_at(&head, 0)) {
+        Some(which) => answer_case(rt, which, &head, part(buf, 0, n), news, out, bytes, work),
+        None => false,
     }
 }
 
-// A proved loop has to end, and nothing says that the input does. So the loop counts its turns
-// down, from a number that no run uses up.
+// A proved loop has to end, and nothing says that the input does. So the loop has a number of turns
+// that no run uses up.
 fn answer_all(
     rt: &impl Host,
     buf: &mut [u8],
@@ -284,9 +269,10 @@ fn answer_all(
     bytes: &mut [u8],
     work: &mut [u32],
 ) {
-    let mut turns = u64::MAX;
-    while turns > 0 && answer(rt, buf, news, out, bytes, work) {
-        turns -= 1;
+    for _ in 0..u64::MAX {
+        if !answer(rt, buf, news, out, bytes, work) {
+            break;
+        }
     }
 }
 

@@ -19,9 +19,8 @@ use Rattle.bundle_layout.specs.Bundle.{file_at}
 use Rattle.report.specs.Report.{counted, refusal_text}
 use Rattle.wording.specs.Wording.{value_text}
 use Rattle.table_again.specs.Again.{file_read_again}
-use Rattle.show_loop.specs.Show.{links, ShowsLoopIn}
-use Rattle.show_loop.specs.declared.Shown.{Shown}
-use Rattle.show_loop.specs.declared.Shown.TheVariants.{Nothing, Ring, Refused}
+use Rattle.std.specs.Prelude.{Some, None, Ok, Err}
+use Rattle.show_loop.specs.Show.{links, Shown, ShowsLoopIn}
 use Rattle.show_loop.proofs.Laws.{links-are, short-work}
 use Rattle.loop_text.specs.Text.{is_last, number_text, numbers_line, id_text, waits_text, leads_text, link_line, link_lines, ring_text, loop_text, TellsLoop}
 
@@ -103,15 +102,15 @@ module _ (o : Output) where
 
   -- ---- what is shown, by its variant
   module _ (explained : Bool) (s list : List ℕ) {shown : Shown} {p : Output} where
-    pub none_told : shown ≡ Nothing → p ≡ put o (codes "none\n") → p ≡ put o (loop_text explained s list shown)
+    pub none_told : shown ≡ Ok None → p ≡ put o (codes "none\n") → p ≡ put o (loop_text explained s list shown)
     unfolding loop_text
     none_told e h = rw e h
 
-    pub ring-told : {m : ℕ} {ring : List ℕ} → shown ≡ Ring m → ring ≡ take m list → p ≡ put o (ring_text explained s ring) → p ≡ put o (loop_text explained s list shown)
+    pub ring-told : {m : ℕ} {ring : List ℕ} → shown ≡ Ok (Some m) → ring ≡ take m list → p ≡ put o (ring_text explained s ring) → p ≡ put o (loop_text explained s list shown)
     unfolding loop_text
     ring-told e f h = rw (e, ← f) h
 
-    pub refusal-told : {refusal : ℕ} → shown ≡ Refused refusal → p ≡ put o (counted (codes "bundle ") refusal) → p ≡ put o (loop_text explained s list shown)
+    pub refusal-told : {refusal : ℕ} → shown ≡ Err refusal → p ≡ put o (counted (codes "bundle ") refusal) → p ≡ put o (loop_text explained s list shown)
     unfolding loop_text refusal_text
     refusal-told e h = rw e h
 
@@ -119,7 +118,7 @@ module _ (o : Output) where
 module _ (explained : Bool) (lent : ℕ) (s before old : List ℕ) {new : List ℕ} {r : ℕ} where
   pub tells-short : lent < 40960 → output_at new r ≡ put (output_at old 0) (counted (codes "bundle ") 14) → TellsLoop explained lent s before before old new r
   tells-short l h =
-      record { shown = Refused 14; shows = short-work s before lent l; told = refusal-told (output_at old 0) explained s before refl h }
+      record { shown = Err 14; shows = short-work s before lent l; told = refusal-told (output_at old 0) explained s before refl h }
 
   pub tells : (after : List ℕ) (shown : Shown) → ShowsLoopIn lent s before after shown → output_at new r ≡ put (output_at old 0) (loop_text explained s after shown) → TellsLoop explained lent s before after old new r
   tells after shown x h = record { shown = shown; shows = x; told = h }

@@ -1,6 +1,6 @@
 -- What the programs of document 02, order 14, print: the number of a refusal, `none`, or the records of a loop; explained, each of
 -- its links in words besides.
-use Rattle.std.specs.Prelude.{ℕ, ◌+◌, ◌-◌, ◌≡◌, Bool, cond, List, [], ◌++◌, length, get_or, take, eqb}
+use Rattle.std.specs.Prelude.{ℕ, ◌+◌, ◌-◌, ◌≡◌, Bool, cond, List, [], ◌++◌, length, get_or, take, eqb, Some, None, Ok, Err}
 use Rattle.json_bytes.specs.Ascii.{codes}
 use Rattle.parts.specs.Part.{part_of}
 use Rattle.output.specs.Decimal.{decimal}
@@ -10,9 +10,7 @@ use Rattle.rule_cells.specs.Cells.{Table}
 use Rattle.bundle_bytes.specs.Pieces.{joined}
 use Rattle.report.specs.Report.{refusal_text}
 use Rattle.wording.specs.Wording.{value_text}
-use Rattle.show_loop.specs.Show.{links, ShowsLoopIn}
-use Rattle.show_loop.specs.declared.Shown.{Shown}
-use Rattle.show_loop.specs.declared.Shown.TheVariants.{Nothing, Ring, Refused}
+use Rattle.show_loop.specs.Show.{Shown, links, ShowsLoopIn}
 
 -- the last of the ring's records
 unfoldable pub is_last : List ℕ → ℕ → Bool
@@ -54,9 +52,9 @@ ring_text explained s ring = numbers_line ring ++ cond explained (link_lines (li
 
 -- of what is shown of bundle s, and of the list as it then is
 unfoldable pub loop_text : Bool → List ℕ → List ℕ → Shown → List ℕ
-loop_text explained s list Nothing = codes "none\n"
-loop_text explained s list (Ring m) = ring_text explained s (take m list)
-loop_text explained s list (Refused refusal) = refusal_text refusal
+loop_text explained s list (Ok None) = codes "none\n"
+loop_text explained s list (Ok (Some m)) = ring_text explained s (take m list)
+loop_text explained s list (Err refusal) = refusal_text refusal
 
 -- An output of bytes `old` is `new` after the call, with r bytes of text at its front: what is told is what is shown, over a lent
 -- workspace and a lent list. Which loop it is, is left open.

@@ -1,6 +1,6 @@
 // The text of a loop among the links of a set: what is shown, and each link in words. A function that puts
 // something puts it as `output` does, and answers the place behind it.
-#![tactic(auto)]
+#![tactic(auto, unfolding(json_bytes::specs::Ascii::codes, report::specs::Report::refusal_text, crate::specs::Text::is_last, crate::specs::Text::loop_text))]
 
 ghost use Rattle.std.specs.Prelude.{◌≡◌, cond, ◌+◌, ◌-◌, ◌≤◌, ◌<◌, length, take};
 ghost use Rattle.output.specs.Output.{output_at, put};
@@ -37,42 +37,27 @@ fn byte_behind(ring: &[u32], i: usize) -> u8
     requires { i < length ring.now }
     ensures { result ≡ cond (is_last ring.now i) 10 32 }
 {
-    if is_last(ring, i) {
-        return b'\n';
-    }
-    b' '
+    if is_last(ring, i) { b'\n' } else { b' ' }
 }
 
 fn put_numbers(out: &mut [u8], at: usize, ring: &[u32]) -> usize
     ensures { output_at out.new result ≡ put (output_at out.old at) (numbers_line ring.now) }
 {
     let mut end = at;
-    let mut i = 0;
-    while i < ring.len() {
+    for i in 0..ring.len() {
         end = put_ended(out, end, number_in(ring, i), byte_behind(ring, i));
-        i += 1;
     }
     end
 }
 
 // ---- A link in words
 
-// Records are numbered from 1 where they are shown, and from 0 among the cells.
-fn row_of(r: usize) -> usize
-    ensures { result ≡ r - 1 }
-{
-    if r == 0 {
-        return 0;
-    }
-    r - 1
-}
-
-// An ID of record r, which starts and ends where two of its cells say, from cell j on.
+// An ID of record r, numbered from 1 where it is shown and from 0 among the cells, which starts and ends where two of its cells say, from cell j on.
 fn put_id(out: &mut [u8], at: usize, s: &[u8], cells: &[u32], r: usize, j: usize) -> usize
     requires { j < 10 }
     ensures { output_at out.new result ≡ put (output_at out.old at) (id_text (table s.now cells.now 10 0) r j) }
 {
-    let row = row_of(r);
+    let row = r.saturating_sub(1);
     let start = cell_at(cells, 10, row, j) as usize;
     let end = cell_at(cells, 10, row, j + 1) as usize;
     put_value(out, at, part(s, start, end))
@@ -117,10 +102,8 @@ fn put_links(out: &mut [u8], at: usize, s: &[u8], cells: &[u32], ring: &[u32]) -
     ensures { output_at out.new result ≡ put (output_at out.old at) (link_lines (table s.now cells.now 10 0) ring.now) }
 {
     let mut end = at;
-    let mut i = 0;
-    while i < ring.len() {
+    for i in 0..ring.len() {
         end = put_link(out, end, s, cells, ring, i);
-        i += 1;
     }
     end
 }
@@ -171,9 +154,9 @@ fn put_shown(
     ensures { output_at out.new result ≡ put (output_at out.old 0) (loop_text explained bundle.now list.now shown) }
 {
     match shown {
-        Shown::Nothing => put_text(out, 0, b"none\n"),
-        Shown::Ring(m) => put_ring(out, bundle, explained, front(list, m), work),
-        Shown::Refused(refusal) => put_counted(out, 0, b"bundle ", refusal as usize),
+        Ok(None) => put_text(out, 0, b"none\n"),
+        Ok(Some(m)) => put_ring(out, bundle, explained, front(list, m), work),
+        Err(refusal) => put_counted(out, 0, b"bundle ", refusal as usize),
     }
 }
 

@@ -1,20 +1,17 @@
 -- The call for a loop that other programs make: what is shown is two numbers and a list.
-use Rattle.std.specs.Prelude.{ℕ, ◌≡◌, List}
-use Rattle.show_loop.specs.declared.Shown.{Shown}
-use Rattle.show_loop.specs.declared.Shown.TheVariants.{Nothing, Ring, Refused}
-use Rattle.show_loop.specs.Show.{ShowsLoopIn}
+use Rattle.std.specs.Prelude.{ℕ, ◌≡◌, List, Some, None, Ok, Err}
+use Rattle.show_loop.specs.Show.{Shown, ShowsLoopIn}
 
 -- the refusal, or 0
 unfoldable pub refusal_shown : Shown → ℕ
-refusal_shown Nothing = 0
-refusal_shown (Ring m) = 0
-refusal_shown (Refused k) = k
+refusal_shown (Ok m) = 0
+refusal_shown (Err k) = k
 
 -- how many records the loop has, 0 where none is shown
 unfoldable pub records_shown : Shown → ℕ
-records_shown Nothing = 0
-records_shown (Ring m) = m
-records_shown (Refused k) = 0
+records_shown (Ok None) = 0
+records_shown (Ok (Some m)) = m
+records_shown (Err k) = 0
 
 -- with a workspace of so many numbers the call answers these two and leaves the list so. A refusal is never 0 and no loop has 0
 -- records, so they say which of the three is shown.

@@ -1,6 +1,6 @@
 // A loop among the links of a set (document 02, order 14) for programs in other languages: numbers and lent
 // lists in, a number out.
-#![tactic(auto)]
+#![tactic(auto, unfolding(crate::specs::Calls::refusal_shown, crate::specs::Calls::records_shown, crate::specs::Calls::LoopCalled))]
 
 ghost use Rattle.std.specs.Prelude.{◌≡◌, length};
 ghost use Rattle.loops_c.specs.Calls.{refusal_shown, records_shown, LoopCalled};
@@ -11,9 +11,8 @@ fn refusal_shown(shown: Shown) -> u32
     ensures { result ≡ refusal_shown shown }
 {
     match shown {
-        Shown::Nothing => 0,
-        Shown::Ring(_) => 0,
-        Shown::Refused(k) => k,
+        Ok(_) => 0,
+        Err(k) => k,
     }
 }
 
@@ -21,9 +20,9 @@ fn records_shown(shown: Shown) -> usize
     ensures { result ≡ records_shown shown }
 {
     match shown {
-        Shown::Nothing => 0,
-        Shown::Ring(m) => m,
-        Shown::Refused(_) => 0,
+        Ok(Some(m)) => m,
+        Ok(None) => 0,
+        Err(_) => 0,
     }
 }
 

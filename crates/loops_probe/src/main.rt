@@ -21,26 +21,24 @@ fn pattern(seed: u32, i: usize) -> u32 {
 
 // Puts the pattern into a list.
 fn lay(list: &mut [u32], seed: u32) {
-    let mut i = 0;
-    while i < list.len() {
-        list[i] = pattern(seed, i);
-        i += 1;
+    for (i, number) in list.iter_mut().enumerate() {
+        *number = pattern(seed, i);
     }
 }
 
 fn tag_of(shown: Shown) -> u32 {
     match shown {
-        Shown::Nothing => 0,
-        Shown::Ring(_) => 1,
-        Shown::Refused(_) => 2,
+        Ok(None) => 0,
+        Ok(Some(_)) => 1,
+        Err(_) => 2,
     }
 }
 
 fn number_of(shown: Shown) -> u32 {
     match shown {
-        Shown::Nothing => 0,
-        Shown::Ring(m) => low(m),
-        Shown::Refused(k) => k,
+        Ok(None) => 0,
+        Ok(Some(m)) => low(m),
+        Err(k) => k,
     }
 }
 
@@ -49,10 +47,8 @@ fn put_list(out: &mut [u8], list: &[u32]) {
     if 5000 < list.len() {
         return;
     }
-    let mut i = 0;
-    while i < list.len() {
-        put_word(out, 8 + 4 * i, list[i]);
-        i += 1;
+    for (i, number) in list.iter().enumerate() {
+        put_word(out, 8 + 4 * i, *number);
     }
 }
 
@@ -80,10 +76,7 @@ fn answer_case(
 fn write_text(rt: &impl Host, text: &[u8]) -> bool {
     let mut head = [0u8; 4];
     put_word(&mut head, 0, low(text.len()));
-    if write_out(rt, &head) {
-        return write_out(rt, text);
-    }
-    false
+    write_out(rt, &head) && write_out(rt, text)
 }
 
 // Answers a case with a list of m numbers, where that is not too long.
@@ -96,10 +89,7 @@ fn answer_list(
     work: &mut [u32],
     out: &mut [u8],
 ) -> bool {
-    if 5000 < m {
-        return false;
-    }
-    if list.len() < m {
+    if 5000 < m || list.len() < m {
         return false;
     }
     let size = 8 + 4 * m;

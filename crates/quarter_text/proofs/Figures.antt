@@ -1,12 +1,14 @@
 -- Figures by their sign, how long one can be, and the longest of some.
 -- Assumes nothing.
-use Prim.Native.Nat.{ℕ, suc, ◌+◌, ◌/◌, ◌%◌, ◌≤◌, ◌<◌}
+use Prim.Native.Nat.{ℕ, suc, ◌+◌, ◌/◌, ◌%◌, ◌≤◌}
 use mathlib.Core.Path.{◌≡◌, refl, ap, ◌∙◌}
-use mathlib.Core.Bool.{true, false, true≢false}
+use mathlib.Core.Bool.{Bool, true, false, cond, true≢false}
 use mathlib.Core.List.{List, [], ◌∷◌, ◌++◌}
 use native.Mathlib.Numerals.{add-one}
 use native.Mathlib.Omega.{arith}
-use borrow.Author.Tests.{lt-ltb, le-ltb, ltb-true}
+use borrow.Author.Tests.{ltb-true, ltb-false}
+use lib.Dec.{ltb}
+use Rattle.std.proofs.Common.{max}
 use lib.ListN.{length, length-append}
 use lib.IntN.{ℤ, pos, negsuc, nat_abs}
 use lib.Signed.{lt_z}
@@ -27,10 +29,6 @@ module _ (o : Output) (n : ℕ) where
   pub four-put : {p q r s : Output} → p ≡ put o ((48 + n / 1000 % 10) ∷ []) → q ≡ put p ((48 + n / 100 % 10) ∷ []) → r ≡ put q ((48 + n / 10 % 10) ∷ []) → s ≡ put r ((48 + n % 10) ∷ []) → s ≡ put o (last_four n)
   unfolding last_four
   four-put e f g h = put_then o _ _ (put_then o _ _ (put_then o _ _ e f) g) h
-
-  pub size-put : {p q r : Output} → p ≡ put o (decimal (n / 10000)) → q ≡ put p (46 ∷ []) → r ≡ put q (last_four n) → r ≡ put o (size_text n)
-  unfolding size_text codes
-  size-put e f g = put_then o _ _ (put_then o _ _ e f) g
 
 figure-below : (z : ℤ) → lt_z z (pos 0) ≡ true → figure z ≡ 45 ∷ size_text (nat_abs z)
 unfolding figure codes
@@ -67,13 +65,13 @@ length-read z f d l {e} {n} q =
     ap (λ (o : Output). o.place) (r ∙ put_front d (figure z) (omega (arith, figure-short z f)))
 
 -- ---- the longest of some
-pub larger-is : (a b : ℕ) → a < b → b ≡ larger a b
+pub max-larger : (a b : ℕ) → max a b ≡ larger a b
 unfolding larger
-larger-is a b l = rw (lt-ltb a b l)
-
-pub larger-not : (a b : ℕ) → b ≤ a → a ≡ larger a b
-unfolding larger
-larger-not a b l = rw (le-ltb a b l)
+max-larger a b = go (ltb a b) refl
+  where
+    go : (t : Bool) → ltb a b ≡ t → max a b ≡ cond t b a
+    go true e = omega (arith, ltb-true a b e)
+    go false e = omega (arith, ltb-false a b e)
 
 module _ (list : List ℤ) where
   pub longest-starts : 12 ≡ longest_to list 0

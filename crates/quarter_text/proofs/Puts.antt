@@ -15,7 +15,7 @@ use Rattle.bundle_bytes.proofs.Laws.{joined-next}
 use Rattle.output.specs.Output.{Output, put}
 use Rattle.output.proofs.Puts.{put_then}
 use Rattle.quarter_text.specs.Figure.{figure}
-use Rattle.quarter_text.specs.Table.{spaces, cell, cell_text, cells, table_line, lines, column_names, comma_text, larger, longest, width, pair, heading, headings, table_text}
+use Rattle.quarter_text.specs.Table.{spaces, cell, cell_text, cells, table_line, lines, column_names, comma_text, pair}
 
 -- ---- spaces
 module _ (o : Output) where
@@ -26,9 +26,6 @@ module _ (o : Output) where
   pub spaces-next : (i : ℕ) {p q : Output} → p ≡ put o (spaces i) → q ≡ put p (32 ∷ []) → q ≡ put o (spaces (i + 1))
   unfolding spaces
   spaces-next i e h = rw (← replicate-append-replicate {A = ℕ} i 1 32) (put_then o (spaces i) (spaces 1) e h)
-
-  pub spaces-end : (i n : ℕ) {p : Output} → i ≡ n → p ≡ put o (spaces i) → p ≡ put o (spaces n)
-  spaces-end i n e h = h ∙ ap (λ k. put o (spaces k)) e
 
   -- ---- a cell, six of them, and a line
   pub cell-put : (between : List ℕ) (wide : ℕ) (text : List ℕ) {k l : ℕ} {p q r : Output} → l ≡ length text → k ≡ wide - l → p ≡ put o between → q ≡ put p (spaces k) → r ≡ put q text → r ≡ put o (cell between wide text)
@@ -51,14 +48,6 @@ module _ (o : Output) where
         rw (joined-next (cell_text between wide list from) c)
         (put_then o (joined (cell_text between wide list from) c) (cell_text between wide list from c) e (rw (to_z-of_z held, at) at h))
 
-    pub cells-end : (c n : ℕ) {p : Output} → c ≡ n → p ≡ put o (cells between wide list from c) → p ≡ put o (cells between wide list from n)
-    cells-end c n e h = h ∙ ap (λ k. put o (cells between wide list from k)) e
-
-    pub line-put : (names : ℕ) (name : List ℕ) {k : ℕ} {p q r s : Output} → k ≡ names - length name → p ≡ put o name → q ≡ put p (spaces k) → r ≡ put q (cells between wide list from 6) → s ≡ put r (10 ∷ []) → s ≡ put o (table_line names between wide name list from)
-    unfolding table_line codes
-    line-put names name n e f g h =
-        put_then o _ _ (put_then o _ _ (put_then o name _ e (rw n at f)) g) h
-
   -- ---- all lines
   module _ (names : ℕ) (between : List ℕ) (wide : ℕ) (totals grand : List ℤ) where
     pub lines-put : {p q r s t : Output} → p ≡ put o (table_line names between wide (codes "LABOR") totals 0) → q ≡ put p (table_line names between wide (codes "MATERIAL") totals 6) → r ≡ put q (table_line names between wide (codes "OTHER_DIRECT_COSTS") totals 12) → s ≡ put r (table_line names between wide (codes "SUBCONTRACT") totals 18) → t ≡ put s (table_line names between wide (codes "all") grand 0) → t ≡ put o (lines names between wide totals grand)
@@ -73,16 +62,3 @@ module _ (o : Output) where
   pub pair_put : (wide : ℕ) (a b : List ℕ) {p q : Output} → p ≡ put o (cell (codes "  ") wide a) → q ≡ put p (cell (codes "  ") wide b) → q ≡ put o (pair wide a b)
   unfolding pair
   pair_put wide a b e f = put_then o _ _ e f
-
-  pub heading-put : (wide : ℕ) (a b c d e f : List ℕ) {p q r s t : Output} → p ≡ put o (spaces 18) → q ≡ put p (pair wide a b) → r ≡ put q (pair wide c d) → s ≡ put r (pair wide e f) → t ≡ put s (10 ∷ []) → t ≡ put o (heading wide a b c d e f)
-  unfolding heading codes
-  heading-put wide a b c d e f e₀ e₁ e₂ e₃ e₄ =
-      put_then o _ _ (put_then o _ _ (put_then o _ _ (put_then o _ _ e₀ e₁) e₂) e₃) e₄
-
-  pub headings-put : (wide : ℕ) {p q r : Output} → p ≡ put o (heading wide (codes "Budget") (codes "Budget") (codes "Estimate") (codes "Estimate") (codes "Actual") (codes "Actual")) → q ≡ put p (heading wide (codes "AtCompletion") (codes "AtCompletion") (codes "ToComplete") (codes "ToComplete") (codes "ToDate") (codes "ToDate")) → r ≡ put q (heading wide (codes "Dollars") (codes "Hours") (codes "Dollars") (codes "Hours") (codes "Dollars") (codes "Hours")) → r ≡ put o (headings wide)
-  unfolding headings
-  headings-put wide e f g = put_then o _ _ (put_then o _ _ e f) g
-
-  pub table-put : (totals grand : List ℤ) {wide m n : ℕ} {p q : Output} → m ≡ longest totals → n ≡ longest grand → wide ≡ larger m n → p ≡ put o (headings wide) → q ≡ put p (lines 18 (codes "  ") wide totals grand) → q ≡ put o (table_text totals grand)
-  unfolding table_text width
-  table-put totals grand a b w e f = rw (← a, ← b, ← w) (put_then o _ _ e f)

@@ -1,7 +1,7 @@
 -- The quarter's totals as a text: "four elements by six columns", each element a line, and below them a line of "each column's grand
 -- total". The elements and the columns have their names of document 002. The same lines are a table, with columns of one width,
 -- and comma-separated values, with none.
-use Rattle.std.specs.Prelude.{ℕ, zero, suc, ◌+◌, ◌-◌, cond, List, [], ◌∷◌, ◌++◌, length, replicate, ltb, ℤ}
+use Rattle.std.specs.Prelude.{ℕ, zero, suc, ◌+◌, ◌-◌, cond, List, ◌++◌, length, replicate, ltb, ℤ}
 use Rattle.exact_sums.specs.Sums.{whole_at}
 use Rattle.json_bytes.specs.Ascii.{codes}
 use Rattle.bundle_bytes.specs.Pieces.{joined}

@@ -1,12 +1,12 @@
 // The totals of a quarter as a text, a table or comma-separated values. Each function puts what it makes as
 // `output` does, and answers the place behind it.
-#![tactic(auto)]
+#![tactic(auto, using(output::proofs::Puts::put_then), unfolding(json_bytes::specs::Ascii::codes, crate::specs::Figure::last_four, crate::specs::Figure::size_text, crate::specs::Table::cell, crate::specs::Table::table_line, crate::specs::Table::lines, crate::specs::Table::column_names, crate::specs::Table::comma_text, crate::specs::Table::larger, crate::specs::Table::width, crate::specs::Table::pair, crate::specs::Table::heading, crate::specs::Table::headings, crate::specs::Table::table_text))]
 
 ghost use Rattle.std.specs.Prelude.{◌≡◌, ◌-◌, ◌≤◌, length};
 ghost use Rattle.exact_sums.specs.Sums.{whole_at};
 ghost use Rattle.output.specs.Output.{output_at, put};
 ghost use Rattle.quarter_text.specs.Figure.{last_four, size_text, figure};
-ghost use Rattle.quarter_text.specs.Table.{spaces, cell, cells, table_line, lines, comma_text, larger, longest, width, pair, heading, headings, table_text};
+ghost use Rattle.quarter_text.specs.Table.{spaces, cell, cells, table_line, lines, comma_text, longest, pair, heading, headings, table_text};
 
 use output::{put_byte, put_digit, put_number, put_text};
 use whole_size::{size_of, whole_in};
@@ -35,9 +35,10 @@ pub fn put_figure(out: &mut [u8], at: usize, x: i64) -> usize
     let size = size_of(x) as usize;
     if x < 0 {
         let next = put_byte(out, at, b'-');
-        return put_size(out, next, size);
+        put_size(out, next, size)
+    } else {
+        put_size(out, at, size)
     }
-    put_size(out, at, size)
 }
 
 // How many bytes that takes.
@@ -52,22 +53,10 @@ fn put_spaces(out: &mut [u8], at: usize, n: usize) -> usize
     ensures { output_at out.new result ≡ put (output_at out.old at) (spaces n) }
 {
     let mut end = at;
-    let mut i = 0;
-    while i < n {
+    for _i in 0..n {
         end = put_byte(out, end, b' ');
-        i += 1;
     }
     end
-}
-
-// How many places of so many are left beside a text.
-fn beside(wide: usize, length: usize) -> usize
-    ensures { result ≡ wide - length }
-{
-    if length < wide {
-        return wide - length;
-    }
-    0
 }
 
 // A text behind a separator, to the right of its cell.
@@ -75,7 +64,7 @@ fn put_cell(out: &mut [u8], at: usize, between: &[u8], wide: usize, text: &[u8])
     ensures { output_at out.new result ≡ put (output_at out.old at) (cell between.now wide text.now) }
 {
     let start = put_text(out, at, between);
-    let place = put_spaces(out, start, beside(wide, text.len()));
+    let place = put_spaces(out, start, wide.saturating_sub(text.len()));
     put_text(out, place, text)
 }
 
@@ -84,7 +73,7 @@ fn put_figure_cell(out: &mut [u8], at: usize, between: &[u8], wide: usize, x: i6
     ensures { output_at out.new result ≡ put (output_at out.old at) (cell between.now wide (figure x)) }
 {
     let start = put_text(out, at, between);
-    let place = put_spaces(out, start, beside(wide, figure_length(x)));
+    let place = put_spaces(out, start, wide.saturating_sub(figure_length(x)));
     put_figure(out, place, x)
 }
 
@@ -101,10 +90,8 @@ fn put_cells(
     ensures { output_at out.new result ≡ put (output_at out.old at) (cells between.now wide list.now from 6) }
 {
     let mut end = at;
-    let mut c = 0;
-    while c < 6 {
+    for c in 0..6 {
         end = put_figure_cell(out, end, between, wide, whole_in(list, from + c));
-        c += 1;
     }
     end
 }
@@ -124,7 +111,7 @@ fn put_line(
     ensures { output_at out.new result ≡ put (output_at out.old at) (table_line names between.now wide name.now list.now from) }
 {
     let behind = put_text(out, at, name);
-    let start = put_spaces(out, behind, beside(names, name.len()));
+    let start = put_spaces(out, behind, names.saturating_sub(name.len()));
     let end = put_cells(out, start, between, wide, list, from);
     put_byte(out, end, b'\n')
 }
@@ -168,25 +155,13 @@ pub fn put_comma_text(out: &mut [u8], at: usize, totals: &[i64], grand: &[i64]) 
     put_lines(out, names, 0, b",", 0, totals, grand)
 }
 
-fn larger_of(a: usize, b: usize) -> usize
-    ensures { result ≡ larger a b }
-{
-    if a < b {
-        return b;
-    }
-    a
-}
-
 // How long the longest figure of a list is, at least 12.
 fn longest_in(list: &[i64]) -> usize
     ensures { result ≡ longest list.now }
 {
-    let mut found = 12;
-    let mut i = 0;
-    while i < list.len() {
-        let x = list[i];
-        found = larger_of(found, figure_length(x));
-        i += 1;
+    let mut found: usize = 12;
+    for &x in list {
+        found = found.max(figure_length(x));
     }
     found
 }
@@ -254,7 +229,7 @@ fn put_headings(out: &mut [u8], at: usize, wide: usize) -> usize
 pub fn put_table(out: &mut [u8], at: usize, totals: &[i64], grand: &[i64]) -> usize
     ensures { output_at out.new result ≡ put (output_at out.old at) (table_text totals.now grand.now) }
 {
-    let wide = larger_of(longest_in(totals), longest_in(grand));
+    let wide = longest_in(totals).max(longest_in(grand));
     let below = put_headings(out, at, wide);
     put_lines(out, below, 18, b"  ", wide, totals, grand)
 }

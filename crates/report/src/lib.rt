@@ -1,5 +1,5 @@
 // The judging program's text, made from marks or a refusal.
-#![tactic(auto)]
+#![tactic(auto, using(output::proofs::Puts::put_then), unfolding(json_bytes::specs::Ascii::codes, crate::specs::Report::counted, crate::specs::Report::line_numbers, crate::specs::Report::line_of, crate::specs::Report::is_accepted, crate::specs::Report::last_line, crate::specs::Report::board_text))]
 
 ghost use Rattle.std.specs.Prelude.{◌≡◌, ◌++◌, ◌≤◌, length, drop};
 ghost use Rattle.mark_numbers.specs.Marks.{marks_in};
@@ -52,10 +52,8 @@ fn put_lines(
     ensures { output_at out.new result ≡ put (output_at out.old at) (lines_up_to (marks_in kinds.now places.now companions.now) (length kinds.now)) }
 {
     let mut end = at;
-    let mut m = 0;
-    while m < kinds.len() {
+    for m in 0..kinds.len() {
         end = put_line(out, end, m, mark_in(kinds, places, companions, m));
-        m += 1;
     }
     end
 }
@@ -100,13 +98,10 @@ pub fn report(
     ensures out_after { out.new ≡ text_in refusal (marks_in kinds.now places.now companions.now) (length out.old) ++ drop (length (text_in refusal (marks_in kinds.now places.now companions.now) (length out.old))) out.old }
     ensures upper_bound { result ≤ length out.old }
 {
-    if !have_length(kinds.len(), kinds, places, companions) {
-        return 0;
-    }
-    if 999 < kinds.len() {
-        return 0;
-    }
-    if out.len() < 64 * kinds.len() + 960 {
+    if !have_length(kinds.len(), kinds, places, companions)
+        || 999 < kinds.len()
+        || out.len() < 64 * kinds.len() + 960
+    {
         return 0;
     }
     if refusal == 0 {

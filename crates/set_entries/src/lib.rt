@@ -53,10 +53,7 @@ fn part_there<'a>(
 fn key_field(k: usize) -> usize
     ensures { result ≡ key_field k }
 {
-    if k == 15 {
-        return 1;
-    }
-    0
+    if k == 15 { 1 } else { 0 }
 }
 
 // Reads file k into the front of the workspace and writes its entries from a place on; answers how many
@@ -109,9 +106,8 @@ fn list_files<'a>(
     ensures work_after { work.new ≡ listed_up_to (expected_in forms.now fields.now names.now fixed.now) (needed (length forms.now / 2) (length rules.now / 9) (rule_from rules.now) scope) (files_in bundle.now scope (new_file present new.now)) base 16 work.old }
 {
     let n = forms.len() / 2;
-    let mut i = 0;
     let mut count = 0;
-    while i < 16 {
+    for i in 0..16 {
         if is_read(n, rules, scope, 4 + i) {
             let more = list_file(
                 bundle,
@@ -127,9 +123,6 @@ fn list_files<'a>(
                 base + 4 * count,
             );
             count += more;
-            i += 1;
-        } else {
-            i += 1;
         }
     }
     count

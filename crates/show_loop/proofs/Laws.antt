@@ -27,9 +27,8 @@ use Rattle.link_classes.proofs.Laws.{class-below, leads-same}
 use Rattle.link_loops.specs.Loop.{ShowsRing}
 use Rattle.link_loops.specs.Links.{link_leads, all_below, are_links, ShowsLinks}
 use Rattle.link_loops.proofs.Shown.{below_each, are-links, shows_same}
-use Rattle.show_loop.specs.Show.{links, leads_to, loop_fault, ShowsLoop, workspace, ShowsLoopIn}
-use Rattle.show_loop.specs.declared.Shown.{Shown}
-use Rattle.show_loop.specs.declared.Shown.TheVariants.{Nothing, Ring, Refused}
+use Rattle.std.specs.Prelude.{Some, None, Ok, Err}
+use Rattle.show_loop.specs.Show.{links, leads_to, loop_fault, Shown, ShowsLoop, workspace, ShowsLoopIn}
 
 -- ---- columns filled with classes show what the links are
 module _ (t : Table) (from to : List ℕ) (few : length from ≤ 4096) (same : length to ≡ length from) where
@@ -161,7 +160,7 @@ module _ (s w : List ℕ) (lent : 40960 ≤ length w) where
 
 -- ---- each way out
 module _ (s before : List ℕ) (lent : ℕ) where
-  pub short-work : lent < 40960 → ShowsLoopIn lent s before before (Refused 14)
+  pub short-work : lent < 40960 → ShowsLoopIn lent s before before (Err 14)
   unfolding ShowsLoopIn workspace
   short-work h = rw (lt-leb 40960 lent h, ShowsLoopIn) (refl, refl)
 
@@ -170,17 +169,17 @@ module _ (s before : List ℕ) (lent : ℕ) where
     unfolding ShowsLoopIn workspace
     in-room after shown x = rw (le-leb 40960 lent room, ShowsLoopIn) x
 
-    pub refused : (k : ℕ) → k ≡ loop_fault s (length before) → (k ≡ 0 → ⊥) → ShowsLoopIn lent s before before (Refused k)
+    pub refused : (k : ℕ) → k ≡ loop_fault s (length before) → (k ≡ 0 → ⊥) → ShowsLoopIn lent s before before (Err k)
     unfolding ShowsLoop
-    refused k e d = in-room before (Refused k) (e, omega arith, refl)
+    refused k e d = in-room before (Err k) (e, omega arith, refl)
 
-    pub nothing-shown : (m : ℕ) (after : List ℕ) → loop_fault s (length before) ≡ 0 → ShowsRing (leads_to (links s)) (links s).records m before after → m ≡ 0 → ShowsLoopIn lent s before after Nothing
+    pub nothing-shown : (m : ℕ) (after : List ℕ) → loop_fault s (length before) ≡ 0 → ShowsRing (leads_to (links s)) (links s).records m before after → m ≡ 0 → ShowsLoopIn lent s before after (Ok None)
     unfolding ShowsLoop
-    nothing-shown m after f x z = in-room after Nothing (f, rw z at x)
+    nothing-shown m after f x z = in-room after (Ok None) (f, rw z at x)
 
-    pub ring-shown : (m : ℕ) (after : List ℕ) → loop_fault s (length before) ≡ 0 → ShowsRing (leads_to (links s)) (links s).records m before after → (m ≡ 0 → ⊥) → ShowsLoopIn lent s before after (Ring m)
+    pub ring-shown : (m : ℕ) (after : List ℕ) → loop_fault s (length before) ≡ 0 → ShowsRing (leads_to (links s)) (links s).records m before after → (m ≡ 0 → ⊥) → ShowsLoopIn lent s before after (Ok (Some m))
     unfolding ShowsLoop
-    ring-shown m after f x d = in-room after (Ring m) (f, omega arith, x)
+    ring-shown m after f x d = in-room after (Ok (Some m)) (f, omega arith, x)
 
 -- ---- with a workspace of its own
 pub own-work : (s before after : List ℕ) (lent : ℕ) (shown : Shown) → 40960 ≤ lent → ShowsLoopIn lent s before after shown → ShowsLoop s before after shown

@@ -1,14 +1,12 @@
 -- A loop of links, document 02, order 14. "A new program reads TaskRelationships and shows a loop as record numbers … IDs
 -- folded."
-use Rattle.std.specs.Prelude.{ℕ, ◌-◌, ◌<◌, ◌≡◌, Bool, true, false, cond, List, length, leb, eqb}
+use Rattle.std.specs.Prelude.{ℕ, ◌-◌, ◌<◌, ◌≡◌, Bool, true, false, cond, List, length, leb, eqb, Option, Some, None, Result, Ok, Err}
 use Rattle.rule_cells.specs.Cells.{Table, same_text}
 use Rattle.bundle_layout.specs.Bundle.{bundle_fault, file_at}
 use Rattle.gate_marks.specs.Marks.{file_mark, table_of}
 use Rattle.schedule.specs.Schedule.{schedule}
 use Rattle.link_classes.specs.Classes.{predecessor_id, successor_id}
 use Rattle.link_loops.specs.Loop.{ShowsRing}
-use Rattle.show_loop.specs.declared.Shown.{Shown}
-use Rattle.show_loop.specs.declared.Shown.TheVariants.{Nothing, Ring, Refused}
 
 -- file 14, as the rules see it
 unfoldable pub links : List ℕ → Table
@@ -25,13 +23,17 @@ loop_fault s room =
     (cond (eqb (file_mark (schedule.expected 14) (file_at s 14)).kind 0) (cond (leb (links s).records room) 0 13) 12)
     (bundle_fault 20 s)
 
--- what is answered, and what the list then holds
+-- what is answered: no loop or how many records it has, else a refusal
+abbrev pub Shown : Type 0
+Shown = Result (Option ℕ) ℕ
+
+-- and what the list then holds
 unfoldable pub ShowsLoop : List ℕ → List ℕ → List ℕ → Shown → Type 0
-ShowsLoop s before after Nothing =
+ShowsLoop s before after (Ok None) =
     (loop_fault s (length before) ≡ 0) × ShowsRing (leads_to (links s)) (links s).records 0 before after
-ShowsLoop s before after (Ring m) =
+ShowsLoop s before after (Ok (Some m)) =
     (loop_fault s (length before) ≡ 0) × (0 < m) × ShowsRing (leads_to (links s)) (links s).records m before after
-ShowsLoop s before after (Refused k) = (k ≡ loop_fault s (length before)) × (0 < k) × (after ≡ before)
+ShowsLoop s before after (Err k) = (k ≡ loop_fault s (length before)) × (0 < k) × (after ≡ before)
 
 -- with a lent workspace: 14 for one that is too short, "before everything"
 unfoldable pub workspace : ℕ
@@ -39,4 +41,4 @@ workspace = 40960
 
 unfoldable pub ShowsLoopIn : ℕ → List ℕ → List ℕ → List ℕ → Shown → Type 0
 ShowsLoopIn lent s before after shown =
-    elim (leb workspace lent) [ true ↦ ShowsLoop s before after shown | false ↦ (shown ≡ Refused 14) × (after ≡ before) ]
+    elim (leb workspace lent) [ true ↦ ShowsLoop s before after shown | false ↦ (shown ≡ Err 14) × (after ≡ before) ]

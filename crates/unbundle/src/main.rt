@@ -72,8 +72,7 @@ fn is_ready(rt: &impl Host, path: &mut [u8], folder: usize) -> bool {
             return false;
         }
     }
-    let mut k = 0;
-    while k < 20 {
+    for k in 0..20 {
         let end = path_of(rt, Which::Schedule, path, folder, k);
         if end == 0 {
             return false;
@@ -81,7 +80,6 @@ fn is_ready(rt: &impl Host, path: &mut [u8], folder: usize) -> bool {
         if !is_free(rt, part(path, 0, end)) {
             return false;
         }
-        k += 1;
     }
     true
 }
@@ -100,8 +98,7 @@ fn write_file(rt: &impl Host, name: &[u8], bytes: &[u8]) -> bool {
 }
 
 fn write_files(rt: &impl Host, path: &mut [u8], folder: usize, bundle: &[u8]) {
-    let mut k = 0;
-    while k < 20 {
+    for k in 0..20 {
         let end = path_of(rt, Which::Schedule, path, folder, k);
         match file_state(bundle, 20, k) {
             FileState::Present => {
@@ -112,7 +109,6 @@ fn write_files(rt: &impl Host, path: &mut [u8], folder: usize, bundle: &[u8]) {
             FileState::Omitted => {}
             FileState::Refused { number: _ } => {}
         }
-        k += 1;
     }
 }
 

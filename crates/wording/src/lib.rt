@@ -198,10 +198,8 @@ fn put_filled(
     ensures { output_at out.new result ≡ put (output_at out.old at) (filled which slots value.now sentence.now) }
 {
     let mut end = at;
-    let mut i = 0;
-    while i < sentence.len() {
-        end = put_sign(which, out, end, sentence[i], slots, value);
-        i += 1;
+    for sign in sentence {
+        end = put_sign(which, out, end, *sign, slots, value);
     }
     end
 }

@@ -1,5 +1,4 @@
 -- `bundle::is_laid_out` meets its contract: what is left to see at the loop's head gives what the whole gives.
-use Prim.Native.Nat.{◌-◌}
 use mathlib.Core.Path.{refl, sym, ◌∙◌}
 use native.Mathlib.Nat.{sub-zero}
 use native.Mathlib.Omega.{arith}
@@ -10,17 +9,17 @@ use Rattle.bundle.proofs.is_laid_out.Goals as goal
 
 pub loop-k-init : goal.loop-k-init
 unfolding laid_out end_of header_size
-loop-k-init c = (omega arith, refl, rw (sub-zero c.args.n))
+loop-k-init c = (refl, rw (sub-zero c.args.n))
 
-pub overflow_add-end-then-stands_right : goal.overflow_add-end-then-stands_right
-overflow_add-end-then-stands_right c = let b = bytes-known c.args.s.now c.shared_slice_known-1.given in
-    omega (arith, c.loop-k.invariant.1, end-small c.args.n c.args.s.now b c.loop-k.k, c.length_at-end.ensures, length-small c.args.s.now c.loop-k.k b)
+pub overflow_add-end-in-loop-k : goal.overflow_add-end-in-loop-k
+overflow_add-end-in-loop-k c = let b = bytes-known c.args.s.now c.shared_slice_known-1.given in
+    omega (arith, c.loop-k.invariant.0, end-small c.args.n c.args.s.now b c.loop-k.k, c.length_at-end.ensures, length-small c.args.s.now c.loop-k.k b)
 
 pub loop-k-preserved : goal.loop-k-preserved
-loop-k-preserved c = (omega arith, rw (c.loop-k.invariant.1, c.length_at-end.ensures) (sym (end-next _ _ c.loop-k.k)), c.loop-k.invariant.2 ∙ laid-right _ _ _ _ c.loop-k-test.true c.loop-k.invariant.1 (sym c.stands_right.ensures ∙ c.if-stands_right.true))
+loop-k-preserved c = (rw (c.loop-k.invariant.0, c.length_at-end.ensures) (sym (end-next _ _ c.loop-k.k)), c.loop-k.invariant.1 ∙ laid-right _ _ _ _ (omega arith) c.loop-k.invariant.0 (sym c.stands_right.ensures ∙ c.if-not-stands_right.false))
 
-pub returns-else-stands_right : goal.returns-else-stands_right
-returns-else-stands_right c = sym (c.loop-k.invariant.2 ∙ laid-wrong _ _ _ _ c.loop-k-test.true c.loop-k.invariant.1 (sym c.stands_right.ensures ∙ c.if-stands_right.false))
+pub returns-then-not-stands_right : goal.returns-then-not-stands_right
+returns-then-not-stands_right c = sym (c.loop-k.invariant.1 ∙ laid-wrong _ _ _ _ (omega arith) c.loop-k.invariant.0 (sym c.stands_right.ensures ∙ c.if-not-stands_right.true))
 
 pub returns : goal.returns
-returns c = sym (c.loop-k.invariant.2 ∙ laid-all _ _ _ _ (omega arith) c.loop-k.invariant.1)
+returns c = sym (c.loop-k.invariant.1 ∙ laid-all _ _ _ _ (omega arith) c.loop-k.invariant.0)

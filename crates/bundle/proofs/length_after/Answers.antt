@@ -8,5 +8,5 @@ overflow_sub-rest c = part-within _ _ c.requires.0 _ c.requires.1 c.part_at.ensu
 pub returns-then-present : goal.returns-then-present
 returns-then-present c = length-new _ _ c.requires.0 _ c.requires.1 c.part_at.ensures _ _ c.if-present.true
 
-pub returns : goal.returns
-returns c = length_without _ _ c.requires.0 _ c.requires.1 c.part_at.ensures _ _ c.if-present.false
+pub returns-else-present : goal.returns-else-present
+returns-else-present c = length_without _ _ c.requires.0 _ c.requires.1 c.part_at.ensures _ _ c.if-present.false

@@ -4,6 +4,3 @@ use Rattle.bundle.proofs.number_at.Goals as goal
 
 pub returns-then-s-k : goal.returns-then-s-k
 returns-then-s-k c = number_past _ _ _ c.if-s-k.true
-
-pub returns : goal.returns
-returns c = c.word_at.ensures

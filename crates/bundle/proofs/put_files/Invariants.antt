@@ -1,5 +1,5 @@
 -- `bundle::put_files` meets its contract: behind the header's place one file more with each turn.
-use Prim.Native.Nat.{◌+◌, ◌-◌, ◌≤◌}
+use Prim.Native.Nat.{◌+◌}
 use mathlib.Core.Path.{◌≡◌}
 use mathlib.Core.List.{◌++◌}
 use lib.ListN.{length, take, drop}
@@ -10,7 +10,4 @@ use Rattle.bundle_layout.specs.Change.{files_after}
 use Rattle.bundle.proofs.put_files.Given as goal
 
 abbrev pub invariant-loop-i : goal.invariant-loop-i
-invariant-loop-i l = (l.i ≤ l.n) × (length l.out ≡ length l.initial.out) × (l.end ≡ header_size l.n + piece_start (pieces_of (files_after l.s l.k (new_file l.present l.new))) l.i) × (l.out ≡ take (header_size l.n) l.initial.out ++ joined (pieces_of (files_after l.s l.k (new_file l.present l.new))) l.i ++ drop (header_size l.n + piece_start (pieces_of (files_after l.s l.k (new_file l.present l.new))) l.i) l.initial.out)
-
-abbrev pub decreases-loop-i : goal.decreases-loop-i
-decreases-loop-i l = l.n - l.i
+invariant-loop-i l = (length l.out ≡ length l.initial.out) × (l.end ≡ header_size l.n + piece_start (pieces_of (files_after l.s l.k (new_file l.present l.new))) l.i) × (l.out ≡ take (header_size l.n) l.initial.out ++ joined (pieces_of (files_after l.s l.k (new_file l.present l.new))) l.i ++ drop (header_size l.n + piece_start (pieces_of (files_after l.s l.k (new_file l.present l.new))) l.i) l.initial.out)

@@ -1,6 +1,6 @@
 -- `drawer_bundles::put_files` meets its contract: behind the header's place one file more with each turn.
 -- Assumes nothing.
-use Prim.Native.Nat.{◌+◌, ◌-◌, ◌≤◌}
+use Prim.Native.Nat.{◌+◌}
 use mathlib.Core.Path.{◌≡◌}
 use mathlib.Core.List.{◌++◌}
 use lib.ListN.{length, take, drop}
@@ -9,7 +9,4 @@ use Rattle.bundle_layout.specs.Bundle.{header_size, file_at, pieces_of}
 use Rattle.drawer_bundles.proofs.put_files.Given as goal
 
 abbrev pub invariant-loop-i : goal.invariant-loop-i
-invariant-loop-i l = (l.i ≤ 20) × (length l.out ≡ length l.initial.out) × (l.end ≡ header_size 20 + piece_start (pieces_of (file_at l.d)) l.i) × (l.out ≡ take (header_size 20) l.initial.out ++ joined (pieces_of (file_at l.d)) l.i ++ drop (header_size 20 + piece_start (pieces_of (file_at l.d)) l.i) l.initial.out)
-
-abbrev pub decreases-loop-i : goal.decreases-loop-i
-decreases-loop-i l = 20 - l.i
+invariant-loop-i l = (length l.out ≡ length l.initial.out) × (l.end ≡ header_size 20 + piece_start (pieces_of (file_at l.d)) l.i) × (l.out ≡ take (header_size 20) l.initial.out ++ joined (pieces_of (file_at l.d)) l.i ++ drop (header_size 20 + piece_start (pieces_of (file_at l.d)) l.i) l.initial.out)

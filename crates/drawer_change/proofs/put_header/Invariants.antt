@@ -1,5 +1,5 @@
 -- `drawer_change::put_header` meets its contract.
-use Prim.Native.Nat.{◌+◌, ◌-◌, ◌≤◌}
+use Prim.Native.Nat.{◌+◌}
 use mathlib.Core.Path.{◌≡◌}
 use lib.ListN.{length, drop}
 use Rattle.drawer_change.proofs.Header.{front}
@@ -8,7 +8,4 @@ use mathlib.Core.List.{◌++◌}
 use Rattle.drawer_change.proofs.put_header.Given as goal
 
 abbrev pub invariant-loop-i : goal.invariant-loop-i
-invariant-loop-i l = (l.i ≤ 20) × (length l.d ≡ length l.initial.d) × (l.d ≡ front l.offs l.lens 20 l.i ++ drop (4 + 8 * l.i) l.initial.d)
-
-abbrev pub decreases-loop-i : goal.decreases-loop-i
-decreases-loop-i l = 20 - l.i
+invariant-loop-i l = (length l.d ≡ length l.initial.d) × (l.d ≡ front l.offs l.lens 20 l.i ++ drop (4 + 8 * l.i) l.initial.d)

@@ -1,19 +1,12 @@
 -- `drawer_held::length_after` meets its contract.
 use Prim.Native.Nat.{ℕ}
 use mathlib.Core.Path.{ap, ◌∙◌}
-use native.Mathlib.Omega.{arith}
 use lib.ListN.{length-replicate}
 use Rattle.drawer_layout.specs.Places.{list_of}
 use Rattle.drawer_held.specs.Drawer.{header_number}
 use mathlib.Core.Bool.{true}
-use Rattle.drawer_held.proofs.Laws.{held_none, length-added, lengths_read}
+use Rattle.drawer_held.proofs.Laws.{length-added, lengths_read}
 use Rattle.drawer_held.proofs.length_after.Goals as goal
-
-pub offset_bounds-lens-k : goal.offset_bounds-lens-k
-offset_bounds-lens-k c = omega (arith, (held_none 20 _ _ c.requires).1)
-
-pub bounds-lens-k : goal.bounds-lens-k
-bounds-lens-k c = (held_none 20 _ _ c.requires).1
 
 pub returns : goal.returns
 returns c = length-added _ _ _ c.requires (lengths_read 20 _ (c.read_numbers.ensures ∙ ap (list_of (header_number _ true)) (length-replicate {A = ℕ} 20 0))) c.all_lengths.ensures.0 c.new_part.ensures

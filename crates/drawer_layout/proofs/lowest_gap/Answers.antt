@@ -1,12 +1,7 @@
 -- `drawer_layout::lowest_gap` meets its contract.
-use Prim.Native.Nat.{◌-◌}
 use native.Mathlib.Omega.{arith}
 use Rattle.drawer_layout.proofs.Laws.{gap-start, gap-none, gap_at, gap-turn, gap-grows}
 use Rattle.bundle_layout.specs.Bundle.{header_size}
-use Rattle.drawer_layout.proofs.lowest_gap.Reads as reads
-use Rattle.drawer_layout.proofs.lowest_gap.Lts as lts
-use Rattle.drawer_layout.proofs.first_in_way.Reads as first-in-way-reads
-use Rattle.drawer_layout.proofs.number_in.Reads as number-in-reads
 use Rattle.drawer_layout.proofs.lowest_gap.Goals as goal
 
 -- src/lib.rt:97:9

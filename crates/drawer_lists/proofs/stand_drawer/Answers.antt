@@ -1,7 +1,6 @@
 -- `drawer_lists::stand_drawer` meets its contract. The loop's invariant: the first k files are put down; the measure is how many
 -- are left.
 -- Assumes nothing.
-use Prim.Native.Nat.{◌-◌}
 use mathlib.Core.Path.{◌≡◌, refl, ap, ◌∙◌}
 use mathlib.Core.Bool.{cond}
 use native.Mathlib.Omega.{arith}
@@ -14,7 +13,7 @@ use Rattle.drawer_lists.proofs.stand_drawer.Goals as goal
 
 pub loop-k-init : goal.loop-k-init
 unfolding stands_in
-loop-k-init c = (refl, omega arith)
+loop-k-init c = refl
 
 pub overflow_add-to : goal.overflow_add-to
 overflow_add-to c = let k = c.loop-k.k in
@@ -22,18 +21,16 @@ overflow_add-to c = let k = c.loop-k.k in
     omega (arith, c.offset_at-from.ensures, offset-small c.args.d.now k b, c.length_at.ensures, length-small c.args.d.now k b)
 
 pub loop-k-preserved : goal.loop-k-preserved
-loop-k-preserved c = (
-  stands-next c.args.d.now c.args.stand.now c.loop-k.k c.loop-k.invariant.0 (omega arith)
-      (c.slice_number.ensures ∙ ap (λ t. cond t 0 1) c.is_omitted.ensures)
-      c.offset_at-from.ensures
-      (rw (c.offset_at-from.ensures, c.length_at.ensures))
-      c.place.ensures,
-  omega arith,
-)
+loop-k-preserved c =
+    stands-next c.args.d.now c.args.stand.now c.loop-k.k c.loop-k.invariant (omega arith)
+    (c.slice_number.ensures ∙ ap (λ t. cond t 0 1) c.is_omitted.ensures)
+    c.offset_at-from.ensures
+    (rw (c.offset_at-from.ensures, c.length_at.ensures))
+    c.place.ensures
 
 pub shape_of-stand : goal.shape_of-stand
-shape_of-stand c = omega (arith, ap length c.loop-k.invariant.0, stands-length c.args.d.now c.args.stand.now c.loop-k.k)
+shape_of-stand c = omega (arith, ap length c.loop-k.invariant, stands-length c.args.d.now c.args.stand.now c.loop-k.k)
 
 pub returns : goal.returns
-returns c = let e : c.loop-k.k ≡ 20 = omega (arith, c.loop-k.invariant.1) in
-    rw e at c.loop-k.invariant.0
+returns c = let e : c.loop-k.k ≡ 20 = omega arith in
+    rw e at c.loop-k.invariant

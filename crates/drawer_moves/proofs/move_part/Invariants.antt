@@ -1,14 +1,8 @@
 -- `drawer_moves::move_part` meets its contract.
-use Prim.Native.Nat.{◌-◌, ◌≤◌}
 use mathlib.Core.Path.{◌≡◌}
 use lib.ListN.{length, take, drop}
 use lib.Seq.{paste}
-use Rattle.drawer_moves.proofs.move_part.Reads as reads
-use Rattle.drawer_moves.proofs.move_part.Lts as lts
 use Rattle.drawer_moves.proofs.move_part.Given as goal
 
 abbrev pub invariant-loop-i : goal.invariant-loop-i
-invariant-loop-i l = (l.i ≤ l.n) × (length l.d ≡ length l.initial.d) × (l.d ≡ paste l.initial.d l.to (take l.n (drop l.from l.initial.d)) l.i)
-
-abbrev pub decreases-loop-i : goal.decreases-loop-i
-decreases-loop-i l = l.n - l.i
+invariant-loop-i l = (length l.d ≡ length l.initial.d) × (l.d ≡ paste l.initial.d l.to (take l.n (drop l.from l.initial.d)) l.i)

@@ -1,12 +1,8 @@
 -- `drawer_text::file_ahead` meets its contract.
 -- Assumes nothing.
-use Prim.Native.Nat.{◌-◌, ◌≤◌}
 use mathlib.Core.Path.{◌≡◌}
 use Rattle.drawer_text.specs.Ahead.{file_ahead}
 use Rattle.drawer_text.proofs.file_ahead.Given as goal
 
 abbrev pub invariant-loop-i : goal.invariant-loop-i
-invariant-loop-i l = (l.best ≡ file_ahead l.offs l.lens l.c l.room l.i) × (l.i ≤ 20)
-
-abbrev pub decreases-loop-i : goal.decreases-loop-i
-decreases-loop-i l = 20 - l.i
+invariant-loop-i l = l.best ≡ file_ahead l.offs l.lens l.c l.room l.i

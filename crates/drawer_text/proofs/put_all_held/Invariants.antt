@@ -1,6 +1,5 @@
 -- `drawer_text::put_all_held` meets its contract.
 -- Assumes nothing.
-use Prim.Native.Nat.{◌-◌, ◌≤◌}
 use mathlib.Core.Path.{◌≡◌}
 use lib.ListN.{length}
 use Rattle.bundle_bytes.specs.Pieces.{joined}
@@ -9,7 +8,4 @@ use Rattle.drawer_text.specs.List.{held_line}
 use Rattle.drawer_text.proofs.put_all_held.Given as goal
 
 abbrev pub invariant-loop-k : goal.invariant-loop-k
-invariant-loop-k l = (output_at l.out l.end ≡ put (output_at l.initial.out l.at) (joined (held_line l.d) l.k)) × (length l.out ≡ length l.initial.out) × (l.k ≤ 20)
-
-abbrev pub decreases-loop-k : goal.decreases-loop-k
-decreases-loop-k l = 20 - l.k
+invariant-loop-k l = (output_at l.out l.end ≡ put (output_at l.initial.out l.at) (joined (held_line l.d) l.k)) × (length l.out ≡ length l.initial.out)

@@ -1,6 +1,5 @@
 -- `drawer_text::put_change` meets its contract.
 -- Assumes nothing.
-use Prim.Native.Nat.{◌-◌}
 use Rattle.drawer_text.proofs.Puts.{change-put}
 use Rattle.drawer_text.proofs.put_change.Goals as goal
 

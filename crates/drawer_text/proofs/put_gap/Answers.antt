@@ -1,6 +1,5 @@
 -- `drawer_text::put_gap` meets its contract.
 -- Assumes nothing.
-use Prim.Native.Nat.{◌-◌}
 use Rattle.json_bytes.specs.Ascii.{codes}
 use Rattle.drawer_text.proofs.Puts.{gap-none, gap-put}
 use Rattle.drawer_text.proofs.put_gap.Goals as goal

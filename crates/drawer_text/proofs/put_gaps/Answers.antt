@@ -1,6 +1,5 @@
 -- `drawer_text::put_gaps` meets its contract.
 -- Assumes nothing.
-use Prim.Native.Nat.{◌-◌}
 use mathlib.Core.Path.{refl}
 use native.Mathlib.Omega.{arith}
 use Rattle.bundle_layout.specs.Bundle.{header_size}

@@ -1,6 +1,5 @@
 -- `drawer_text::put_held` meets its contract.
 -- Assumes nothing.
-use Prim.Native.Nat.{◌-◌}
 use Rattle.drawer_text.proofs.Puts.{held_none, held-put}
 use Rattle.drawer_text.proofs.put_held.Goals as goal
 

@@ -1,6 +1,5 @@
 -- `drawer_text::put_list` meets its contract.
 -- Assumes nothing.
-use Prim.Native.Nat.{◌-◌}
 use Rattle.json_bytes.specs.Ascii.{codes}
 use Rattle.drawer_text.proofs.Puts.{list_put, list-refused}
 use Rattle.drawer_text.proofs.put_list.Goals as goal

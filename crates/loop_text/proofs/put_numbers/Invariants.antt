@@ -1,15 +1,10 @@
 -- `loop_text::put_numbers` meets its contract: after each turn i numbers are put.
 -- Assumes nothing.
-use Prim.Native.Nat.{◌-◌, ◌≤◌}
 use mathlib.Core.Path.{◌≡◌}
-use lib.ListN.{length}
 use Rattle.output.specs.Output.{output_at, put}
 use Rattle.bundle_bytes.specs.Pieces.{joined}
 use Rattle.loop_text.specs.Text.{number_text}
 use Rattle.loop_text.proofs.put_numbers.Given as goal
 
 abbrev pub invariant-loop-i : goal.invariant-loop-i
-invariant-loop-i l = (output_at l.out l.end ≡ put (output_at l.initial.out l.at) (joined (number_text l.ring) l.i)) × (length l.out ≡ length l.initial.out) × (l.i ≤ length l.ring)
-
-abbrev pub decreases-loop-i : goal.decreases-loop-i
-decreases-loop-i l = length l.ring - l.i
+invariant-loop-i l = (output_at l.out l.end ≡ put (output_at l.initial.out l.at) (joined (number_text l.ring) l.i))

@@ -1,6 +1,5 @@
 -- `quarter_text::figure_length` meets its contract: a list of 32 bytes holds every figure, so that it ends where it is put.
 -- Assumes nothing.
-use Prim.Native.Nat.{◌-◌}
 use mathlib.Core.Path.{refl}
 use Rattle.quarter_text.proofs.Figures.{length-read}
 use Rattle.quarter_text.proofs.figure_length.Goals as goal

@@ -1,6 +1,5 @@
 -- `quarter_text::put_comma_text` meets its contract: the names of the columns and all lines.
 -- Assumes nothing.
-use Prim.Native.Nat.{◌-◌}
 use Rattle.quarter_text.proofs.Puts.{comma-put}
 use Rattle.json_bytes.specs.Ascii.{codes}
 use Rattle.quarter_text.specs.Table.{column_names}

@@ -1,6 +1,5 @@
 -- `quarter_text::put_last_four` meets its contract: one digit behind the other.
 -- Assumes nothing.
-use Prim.Native.Nat.{◌-◌}
 use Rattle.quarter_text.proofs.Figures.{four-put}
 use Rattle.quarter_text.proofs.put_last_four.Goals as goal
 

@@ -1,6 +1,5 @@
 -- `quarter_text::put_lines` meets its contract: one line behind the other.
 -- Assumes nothing.
-use Prim.Native.Nat.{◌-◌}
 use Rattle.quarter_text.proofs.Puts.{lines-put}
 use Rattle.json_bytes.specs.Ascii.{codes}
 use Rattle.quarter_text.proofs.put_lines.Goals as goal

@@ -1,14 +1,9 @@
 -- `quarter_text::put_spaces` meets its contract: after each turn i spaces are put.
 -- Assumes nothing.
-use Prim.Native.Nat.{◌-◌, ◌≤◌}
 use mathlib.Core.Path.{◌≡◌}
-use lib.ListN.{length}
 use Rattle.output.specs.Output.{output_at, put}
 use Rattle.quarter_text.specs.Table.{spaces}
 use Rattle.quarter_text.proofs.put_spaces.Given as goal
 
 abbrev pub invariant-loop-i : goal.invariant-loop-i
-invariant-loop-i l = (output_at l.out l.end ≡ put (output_at l.initial.out l.at) (spaces l.i)) × (length l.out ≡ length l.initial.out) × (l.i ≤ l.n)
-
-abbrev pub decreases-loop-i : goal.decreases-loop-i
-decreases-loop-i l = l.n - l.i
+invariant-loop-i l = output_at l.out l.end ≡ put (output_at l.initial.out l.at) (spaces l._i)

@@ -1,16 +1,10 @@
 -- `report::put_lines` meets its contract: after each turn the lines of the marks below m are put.
 -- Assumes nothing.
-use Prim.Native.Nat.{◌-◌}
-use mathlib.Core.Path.{refl}
-use native.Mathlib.Omega.{arith}
-use Rattle.report.proofs.Puts.{lines_start, lines_next, lines_end}
+use Rattle.report.proofs.Puts.{lines_start, lines_next}
 use Rattle.report.proofs.put_lines.Goals as goal
 
 pub loop-m-init : goal.loop-m-init
-loop-m-init c = (lines_start _ _, refl, omega arith)
+loop-m-init c = lines_start _ _
 
 pub loop-m-preserved : goal.loop-m-preserved
-loop-m-preserved c = (lines_next _ _ _ c.mark_in.ensures c.loop-m.invariant.0 c.put_line-end.ensures, omega arith, omega arith)
-
-pub returns : goal.returns
-returns c = lines_end _ _ _ _ (omega arith) c.loop-m.invariant.0
+loop-m-preserved c = lines_next _ _ _ c.mark_in.ensures c.loop-m.invariant c.put_line-end.ensures

@@ -5,5 +5,5 @@ use Rattle.set_entries.proofs.key_field.Goals as goal
 pub returns-then-k-eq15 : goal.returns-then-k-eq15
 returns-then-k-eq15 c = outline-field _ c.if-k-eq15.true
 
-pub returns : goal.returns
-returns c = first_field _ c.if-k-eq15.false
+pub returns-else-k-eq15 : goal.returns-else-k-eq15
+returns-else-k-eq15 c = first_field _ c.if-k-eq15.false

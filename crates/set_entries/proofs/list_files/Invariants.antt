@@ -1,6 +1,5 @@
--- `set_entries::list_files` meets its contract. The loop's invariant: the entries of the first i files are listed; the measure is how
--- many files are left.
-use Prim.Native.Nat.{◌-◌, ◌/◌, ◌≤◌}
+-- `set_entries::list_files` meets its contract. The loop's invariant: the entries of the first i files are listed.
+use Prim.Native.Nat.{◌/◌}
 use lib.ListN.{length}
 use Rattle.parts.specs.Files.{new_file}
 use Rattle.rule_shape.specs.Rule.{rule_from}
@@ -12,7 +11,4 @@ use borrow.Author.Rules.{rules}
 use Rattle.set_entries.proofs.list_files.Given as goal
 
 abbrev pub invariant-loop-i : goal.invariant-loop-i
-invariant-loop-i l = Listing (expected_in l.forms l.fields l.names l.fixed) (needed l.n (length l.rules / 9) (rule_from l.rules) l.scope) (files_in l.bundle l.scope (new_file l.present l.new)) l.base l.initial.work l.i l.work l.count × (l.i ≤ 16)
-
-abbrev pub decreases-loop-i : goal.decreases-loop-i
-decreases-loop-i l = 16 - l.i
+invariant-loop-i l = Listing (expected_in l.forms l.fields l.names l.fixed) (needed l.n (length l.rules / 9) (rule_from l.rules) l.scope) (files_in l.bundle l.scope (new_file l.present l.new)) l.base l.initial.work l.i l.work l.count

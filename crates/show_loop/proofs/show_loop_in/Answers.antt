@@ -29,11 +29,11 @@ shape_of-work-then-read-ne0 c = work-long c.args.bundle.now c.args.work.now c.if
 pub shape_of-work-then-list-records : goal.shape_of-work-then-list-records
 shape_of-work-then-list-records c = work-long c.args.bundle.now c.args.work.now c.if-work-lt40960.false _ _ c.read_again-read.ensures.value c.read_again-read.ensures.cells_after
 
-pub slice_bounds-show_table-end : goal.slice_bounds-show_table-end
-slice_bounds-show_table-end c = omega (arith, work-long c.args.bundle.now c.args.work.now c.if-work-lt40960.false _ _ c.read_again-read.ensures.value c.read_again-read.ensures.cells_after)
+pub slice_bounds-cells-end : goal.slice_bounds-cells-end
+slice_bounds-cells-end c = omega (arith, work-long c.args.bundle.now c.args.work.now c.if-work-lt40960.false _ _ c.read_again-read.ensures.value c.read_again-read.ensures.cells_after)
 
-pub slice_bounds-show_table-end-2 : goal.slice_bounds-show_table-end-2
-slice_bounds-show_table-end-2 c = front-again c.args.bundle.now c.args.work.now c.if-work-lt40960.false _ _ c.read_again-read.ensures.value c.read_again-read.ensures.cells_after
+pub slice_bounds-cells-end-2 : goal.slice_bounds-cells-end-2
+slice_bounds-cells-end-2 c = front-again c.args.bundle.now c.args.work.now c.if-work-lt40960.false _ _ c.read_again-read.ensures.value c.read_again-read.ensures.cells_after
 
 pub show_table-m-requires : goal.show_table-m-requires
 show_table-m-requires c = (few-records c.args.bundle.now c.args.work.now c.if-work-lt40960.false _ _ c.read_again-read.ensures.value c.read_again-read.ensures.cells_after, c.if-list-records.false)

@@ -1,5 +1,4 @@
 -- `unbundle::is_ready` is safe and ends: each turn asks for one name more, and the path keeps its length.
-use Prim.Native.Nat.{◌-◌}
 use mathlib.Core.Path.{refl}
 use Rattle.unbundle.proofs.is_ready.Goals as goal
 

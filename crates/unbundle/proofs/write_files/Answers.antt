@@ -1,5 +1,4 @@
 -- `unbundle::write_files` is safe and ends: each turn writes one file more, and the path keeps its length.
-use Prim.Native.Nat.{◌-◌}
 use mathlib.Core.Path.{refl}
 use Rattle.unbundle.proofs.write_files.Goals as goal
 
