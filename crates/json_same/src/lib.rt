@@ -55,7 +55,7 @@ fn is_end(step: Step) -> bool
 pub fn is_plain(b: u32) -> bool
     ensures { result ≡ is_plain b }
 {
-    b != 92 && (is_within(35, 127, b) || is_within(32, 33, b))
+    b != 92 && (is_within(35, 127, b) || (b != 34 && is_within(32, 127, b)))
 }
 
 // Two bytes side by side, a character beginning at each.
