@@ -146,22 +146,24 @@ pub fn parent_type_rule_in(
             parent: 0,
         };
     }
-    let typed = first_with(tasks, type_field, word);
-    if order.len() == tasks.records && typed != 0 {
-        let lookup = Lookup {
-            m: id,
-            k: type_field,
-            kind: 1,
-            also: tasks.start_of(typed - 1, type_field),
-        };
-        if key_order(tasks, key_of(lookup), sums, order, scratch) {
-            let index = Index {
-                table: *tasks,
-                lookup,
-                sums,
-                order,
+    if order.len() == tasks.records {
+        let typed = first_with(tasks, type_field, word);
+        if typed != 0 {
+            let lookup = Lookup {
+                m: id,
+                k: type_field,
+                kind: 1,
+                also: tasks.start_of(typed - 1, type_field),
             };
-            return rule.first_breaking(&index);
+            if key_order(tasks, key_of(lookup), sums, order, scratch) {
+                let index = Index {
+                    table: *tasks,
+                    lookup,
+                    sums,
+                    order,
+                };
+                return rule.first_breaking(&index);
+            }
         }
     }
     parent_type_rule(outline, level, task, parents, tasks, id, type_field, word)
