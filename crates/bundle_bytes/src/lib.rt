@@ -34,6 +34,9 @@ pub fn put_part(out: &mut [u8], at: usize, part: &[u8])
     ensures { out.new ≡ written out.old at part.now }
 {
     if part.len() <= out.len() && at <= out.len() - part.len() {
-        out[at..at + part.len()].copy_from_slice(part);
+        // The C interface: by `copy_from_slice` an archive would need `memmove` from outside.
+        for i in 0..part.len() {
+            out[at + i] = part[i];
+        }
     }
 }
